@@ -1,7 +1,7 @@
 // Takes of files, and what a user is told where a file isn't taken.
 
-use crate::folder::{FOLDER, lay};
-use crate::takes::Answer::{Failed, Missing, Taken, There};
+use crate::files::folder::{FOLDER, lay};
+use crate::files::takes::Answer::{Failed, Missing, Taken, There};
 use std::fs::{File, OpenOptions};
 use std::io;
 use std::os::unix::fs::symlink;

@@ -3,7 +3,8 @@ ghost use Rattle.std.specs.Prelude.{◌≡◌, ◌≤◌};
 ghost use Rattle.tdb_cache.specs.WriteBehind.{behind_inner};
 ghost use Rattle.tdb_disk.specs.MemDisk.{memory_size};
 
-use std::test::Fail;
+use crate::rows::first_false;
+use std::alloc::{AllocError, Global};
 use tdb_cache::WriteBehind;
 use tdb_disk::{Call, Disk, DiskFault, MemDisk};
 
@@ -40,20 +41,24 @@ fn rows(d: &mut WriteBehind<MemDisk>) -> Result<[Row; 4], DiskFault>
     Ok([written, synced, grown, row(d)?])
 }
 
-#[test]
-fn a_sync_writes_what_is_pending(rt: HostRuntime) -> Result<(), Fail> {
-    let alloc = rt.alloc();
+/// What is otherwise where a sync writes what is pending.
+pub(crate) fn failing_sync(alloc: Global) -> Result<Option<&'static str>, AllocError> {
     let mut disk = WriteBehind::of_empty(alloc, MemDisk::new(alloc, b"")?);
-    assert_eq!(rt;
-        rows(&mut disk),
-        Ok([
-            (*b"1234word", [0; 8]),
-            (*b"1234word", *b"1234word"),
-            (*b"12a\0\0\0\0\0", *b"123\0\0\0\0\0"),
-            (*b"12a\0\0\0\0\0", *b"12a\0\0\0\0\0")
-        ])
-    );
-    Ok(())
+    let Ok([written, synced, grown, last]) = rows(&mut disk) else {
+        return Ok(Some("a call fails"));
+    };
+    Ok(first_false(&[
+        ("writes", written == (*b"1234word", [0; 8])),
+        ("a sync", synced == (*b"1234word", *b"1234word")),
+        (
+            "a cut with a growth",
+            grown == (*b"12a\0\0\0\0\0", *b"123\0\0\0\0\0"),
+        ),
+        (
+            "one more sync",
+            last == (*b"12a\0\0\0\0\0", *b"12a\0\0\0\0\0"),
+        ),
+    ]))
 }
 
 /// The rows after a sync, a growth and a cut that fail, and after a sync that doesn't.
@@ -74,30 +79,27 @@ fn rows_with_faults(d: &mut WriteBehind<MemDisk>) -> Result<(u8, [Row; 3]), Disk
     Ok((failed, [first, second, row(d)?]))
 }
 
-#[test]
-fn a_fault_loses_nothing(rt: HostRuntime) -> Result<(), Fail> {
-    let alloc = rt.alloc();
+/// What is otherwise where a fault loses nothing.
+pub(crate) fn failing_fault(alloc: Global) -> Result<Option<&'static str>, AllocError> {
     let mut inner = MemDisk::new(alloc, b"")?;
     inner.fail(Call::Write, 0)?;
     inner.fail(Call::Grow, 1)?;
     inner.fail(Call::Cut, 0)?;
     let mut disk = WriteBehind::of_empty(alloc, inner);
-    assert_eq!(rt;
-        rows_with_faults(&mut disk),
-        Ok((
-            3,
-            [
-                (*b"12345678", [0; 8]),
-                (*b"12345678", *b"12345678"),
-                (*b"1234word", *b"12345678")
-            ]
-        ))
-    );
-    assert_eq!(rt;
-        disk.finish().as_slice(),
-        b"1234word\0\0\0\0\0\0\0\0".as_slice()
-    );
-    Ok(())
+    let Ok((failed, [sync, grow, cut])) = rows_with_faults(&mut disk) else {
+        return Ok(Some("another call fails"));
+    };
+    let left = disk.finish();
+    Ok(first_false(&[
+        ("three calls fail", failed == 3),
+        ("a sync that fails", sync == (*b"12345678", [0; 8])),
+        ("a growth that fails", grow == (*b"12345678", *b"12345678")),
+        ("a cut that fails", cut == (*b"1234word", *b"12345678")),
+        (
+            "what is left",
+            left.as_slice() == b"1234word\0\0\0\0\0\0\0\0".as_slice(),
+        ),
+    ]))
 }
 
 /// The rows of a disk that is written to, grows past the longest content, and is written to again.
@@ -113,17 +115,20 @@ fn rows_past(d: &mut WriteBehind<MemDisk>) -> Result<[Row; 3], DiskFault>
     Ok([short, long, row(d)?])
 }
 
-#[test]
-fn a_long_file_is_written_at_once(rt: HostRuntime) -> Result<(), Fail> {
-    let alloc = rt.alloc();
+/// What is otherwise where a long file is written at once.
+pub(crate) fn failing_long_file(alloc: Global) -> Result<Option<&'static str>, AllocError> {
     let long = (*b"12345678", *b"12345678");
     let last = (*b"1234word", *b"1234word");
-    let mut disk = WriteBehind::of_empty(alloc, MemDisk::new(alloc, b"")?);
-    assert_eq!(rt;
-        rows_past(&mut disk),
-        Ok([(*b"12345678", [0; 8]), long, last])
-    );
-    let mut disk = WriteBehind::through(MemDisk::new(alloc, b"")?);
-    assert_eq!(rt; rows_past(&mut disk), Ok([long, long, last]));
-    Ok(())
+    let mut behind = WriteBehind::of_empty(alloc, MemDisk::new(alloc, b"")?);
+    let mut through = WriteBehind::through(MemDisk::new(alloc, b"")?);
+    Ok(first_false(&[
+        (
+            "a file that gets long",
+            rows_past(&mut behind) == Ok([(*b"12345678", [0; 8]), long, last]),
+        ),
+        (
+            "a file that is long from the first",
+            rows_past(&mut through) == Ok([long, long, last]),
+        ),
+    ]))
 }

@@ -1,12 +1,21 @@
-// The cases of all tables.
+//! Tests of the real files: what is made, read, renamed and removed, each refusal, and the streams, over the public
+//! calls of `tdb_files`.
 
-use crate::{disks, folder, names, streams, takes};
-use std::test::Fail;
+mod disks;
+mod folder;
+mod names;
+mod streams;
+mod takes;
+
+use crate::rows::first_false;
 
 #[test]
-fn cases_of_tables(rt: HostRuntime) -> Result<(), Fail> {
-    folder::make(rt)?;
+fn real_files_are_taken_and_changed(rt: HostRuntime) {
     for (table, failing) in [
+        (
+            "the folder",
+            first_false(&[("is made", folder::make(rt).is_ok())]),
+        ),
         ("takes", takes::failing_take(rt)),
         ("takes beside others", takes::failing_beside(rt)),
         ("locks of taken files", takes::failing_lock(rt)),
@@ -16,9 +25,11 @@ fn cases_of_tables(rt: HostRuntime) -> Result<(), Fail> {
         ("removals", names::failing_removal(rt)),
         ("sinks", streams::failing_sink(rt)),
         ("sources", streams::failing_source(rt)),
+        (
+            "the folder",
+            first_false(&[("is removed", folder::remove(rt).is_ok())]),
+        ),
     ] {
         assert_eq!(rt; failing, None, "{table}");
     }
-    folder::remove(rt)?;
-    Ok(())
 }

@@ -3,7 +3,8 @@ ghost use Rattle.std.specs.Prelude.{◌≡◌, ◌+◌, ◌≤◌, length};
 ghost use Rattle.tdb_cache.specs.Cached.{cached_inner};
 ghost use Rattle.tdb_disk.specs.MemDisk.{memory_size};
 
-use std::test::Fail;
+use crate::rows::first_false;
+use std::alloc::{AllocError, Global};
 use tdb_cache::Cached;
 use tdb_disk::{Call, Disk, DiskFault, MemDisk};
 
@@ -35,21 +36,21 @@ fn rows<D: Disk>(d: &mut D) -> Result<[[u8; 8]; 5], DiskFault>
     Ok([border, written, end, grown, eight(d, 65_532)?])
 }
 
-#[test]
-fn shows_what_the_disk_shows(rt: HostRuntime) -> Result<(), Fail> {
-    let mut disk = Cached::new(rt.alloc(), MemDisk::new(rt.alloc(), b"")?);
-    assert_eq!(rt;
-        rows(&mut disk),
-        Ok([
-            *b"11112222",
-            *b"11word22",
-            *b"\0\0\0\0WORD",
-            *b"WORD\0\0\0\0",
-            *b"11word\0\0"
-        ])
-    );
-    assert_eq!(rt; (disk.kept(), disk.starved()), (2, 0));
-    Ok(())
+/// What is otherwise where a disk with a cache shows what the disk within shows.
+pub(crate) fn failing_row(alloc: Global) -> Result<Option<&'static str>, AllocError> {
+    let mut disk = Cached::new(alloc, MemDisk::new(alloc, b"")?);
+    let Ok([border, written, end, grown, cut]) = rows(&mut disk) else {
+        return Ok(Some("a call fails"));
+    };
+    Ok(first_false(&[
+        ("the border of two blocks", border == *b"11112222"),
+        ("a write there", written == *b"11word22"),
+        ("the end of the file", end == *b"\0\0\0\0WORD"),
+        ("a growth", grown == *b"WORD\0\0\0\0"),
+        ("a cut with a growth", cut == *b"11word\0\0"),
+        ("two blocks are kept", disk.kept() == 2),
+        ("memory is not wanting", disk.starved() == 0),
+    ]))
 }
 
 /// How many of a write, a word and a sync fail, and what is read after each.
@@ -66,16 +67,22 @@ fn rows_with_faults<D: Disk>(d: &mut D) -> Result<(u8, [[u8; 8]; 3]), DiskFault>
     Ok((failed, [first, second, eight(d, 96)?]))
 }
 
-#[test]
-fn after_a_fault_the_disk_is_read_anew(rt: HostRuntime) -> Result<(), Fail> {
-    let mut inner = MemDisk::new(rt.alloc(), b"")?;
+/// What is otherwise where after a fault the disk is read anew.
+pub(crate) fn failing_fault(alloc: Global) -> Result<Option<&'static str>, AllocError> {
+    let mut inner = MemDisk::new(alloc, b"")?;
     inner.fail(Call::Write, 0)?;
     inner.fail(Call::WriteWord, 0)?;
     inner.fail(Call::Sync, 0)?;
-    let mut disk = Cached::new(rt.alloc(), inner);
-    assert_eq!(rt; rows_with_faults(&mut disk), Ok((3, [[0; 8]; 3])));
-    assert_eq!(rt; disk.into_inner().bytes_read(), 3 * 65_536);
-    Ok(())
+    let mut disk = Cached::new(alloc, inner);
+    let rows = rows_with_faults(&mut disk);
+    let read = disk.into_inner().bytes_read();
+    Ok(first_false(&[
+        (
+            "three calls fail, and nothing is written",
+            rows == Ok((3, [[0; 8]; 3])),
+        ),
+        ("a block is read three times", read == 3 * 65_536),
+    ]))
 }
 
 /// Whether a read shows what the disk within has, how many blocks are kept then, and how many bytes were read there.
@@ -106,19 +113,21 @@ fn long_rows(d: &mut Cached<MemDisk>, buf: &mut [u8]) -> Result<[(bool, usize, u
     Ok([long, short, kept, past, looked(d, 8, buf)?])
 }
 
-#[test]
-fn a_long_read_keeps_nothing(rt: HostRuntime) -> Result<(), Fail> {
-    let mut buf = vec![in rt.alloc(); 0; 65_536]?;
-    let mut disk = Cached::new(rt.alloc(), MemDisk::new(rt.alloc(), b"")?);
-    assert_eq!(rt;
-        long_rows(&mut disk, &mut buf),
-        Ok([
-            (true, 0, 65_536),
-            (true, 1, 131_072),
-            (true, 1, 131_072),
-            (true, 1, 196_608),
-            (true, 1, 262_144)
-        ])
-    );
-    Ok(())
+/// What is otherwise where a long read keeps nothing.
+pub(crate) fn failing_long_read(alloc: Global) -> Result<Option<&'static str>, AllocError> {
+    let mut buf = vec![in alloc; 0; 65_536]?;
+    let mut disk = Cached::new(alloc, MemDisk::new(alloc, b"")?);
+    let Ok([long, short, kept, past, last]) = long_rows(&mut disk, &mut buf) else {
+        return Ok(Some("a call fails"));
+    };
+    Ok(first_false(&[
+        ("a read of a block's length", long == (true, 0, 65_536)),
+        ("a short one", short == (true, 1, 131_072)),
+        (
+            "a long one where a block is kept",
+            kept == (true, 1, 131_072),
+        ),
+        ("a long one where it isn't", past == (true, 1, 196_608)),
+        ("a long one of two blocks", last == (true, 1, 262_144)),
+    ]))
 }

@@ -1,6 +1,6 @@
 // Calls of a real disk: which of them are done, and what the system has in the file then.
 
-use crate::folder::{has, lay, mode_of};
+use crate::files::folder::{has, lay, mode_of};
 use std::fs::OpenOptions;
 use tdb_disk::{Disk, Files, Take};
 use tdb_files::DirFiles;

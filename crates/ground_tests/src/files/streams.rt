@@ -1,6 +1,6 @@
 // Streams from and to files.
 
-use crate::folder::{self, FOLDER, has, lay};
+use crate::files::folder::{self, FOLDER, has, lay};
 use std::{fs, io};
 use tdb_disk::{Sink, Source, SourceFault};
 use tdb_files::{FileSink, InSource, OutSink};

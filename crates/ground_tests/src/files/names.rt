@@ -1,6 +1,6 @@
 // Renames and removals of files.
 
-use crate::folder::{self, FOLDER, has, lay, mode_of, set_mode};
+use crate::files::folder::{self, FOLDER, has, lay, mode_of, set_mode};
 use std::{fs, io};
 use tdb_disk::Files;
 use tdb_files::DirFiles;
