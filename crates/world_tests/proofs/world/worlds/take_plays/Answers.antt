@@ -1,7 +1,7 @@
 -- The world that is made fits a file within the limit.
 use Rattle.std.proofs.Common.{arith}
 use Rattle.tdb_disk.specs.History.{seen}
-use Rattle.tdb_course_tests.proofs.worlds.take_plays.Goals as goal
+use Rattle.world_tests.proofs.world.worlds.take_plays.Goals as goal
 
 pub run-answer-requires-clause-fits : goal.run-answer-requires-clause-fits
 run-answer-requires-clause-fits g c =

@@ -1,7 +1,8 @@
-//! Small loads and their summaries, and a larger one that is done twice.
+//! Tests of generated commands, over the public calls of `tdb_gen`: small loads and their summaries, and a larger one
+//! that is done twice.
 
+use crate::rows::first_false;
 use std::alloc::{AllocError, Global};
-use std::test::Fail;
 use tdb_check::check;
 use tdb_commands::Options;
 use tdb_disk::{Disk, MemDisk};
@@ -72,32 +73,58 @@ fn live(alloc: Global, disk: &mut MemDisk) -> Option<u64> {
         .map(|report| report.live)
 }
 
-#[test]
-fn small_loads_have_their_summaries(rt: HostRuntime) -> Result<(), Fail> {
-    let alloc = rt.alloc();
-    for (commands, seed, text) in [(0, 7, NOTHING), (1, 1, ONE_STORE)] {
-        let mut file = new_file(alloc)?;
-        let Some(summary) = load(alloc, &mut file, commands, seed) else {
-            panic!(rt; "no summary of {commands} commands");
-        };
-        assert_eq!(rt;
-            summary.text(alloc)?.as_slice(),
-            text,
-            "{commands} commands"
-        );
-    }
-    Ok(())
+/// How many commands from a seed, and their summary on a new file.
+static LOADS: [(&'static str, u32, u32, &'static [u8]); 2] = [
+    ("no command", 0, 7, NOTHING),
+    ("one command", 1, 1, ONE_STORE),
+];
+
+/// Whether commands on a new file have this summary.
+fn load_holds(alloc: Global, commands: u32, seed: u32, text: &[u8]) -> Result<bool, AllocError> {
+    let mut file = new_file(alloc)?;
+    Ok(match load(alloc, &mut file, commands, seed) {
+        Some(summary) => summary.text(alloc)?.as_slice() == text,
+        None => false,
+    })
 }
 
-#[test]
-fn a_load_is_the_same_twice(rt: HostRuntime) -> Result<(), Fail> {
-    let alloc = rt.alloc();
+/// The first load that has another summary.
+fn failing_load(alloc: Global) -> Result<Option<&'static str>, AllocError> {
+    for (name, commands, seed, text) in &LOADS {
+        if !load_holds(alloc, *commands, *seed, *text)? {
+            return Ok(Some(*name));
+        }
+    }
+    Ok(None)
+}
+
+/// What is otherwise where ten thousand commands are done twice.
+fn failing_second(alloc: Global) -> Result<Option<&'static str>, AllocError> {
     let mut first = new_file(alloc)?;
     let mut other = new_file(alloc)?;
     let summary = load(alloc, &mut first, 10_000, 1);
-    assert_eq!(rt; summary, load(alloc, &mut other, 10_000, 1));
-    assert_eq!(rt; first.as_slice(), other.as_slice());
-    assert_eq!(rt; summary.map(|s| s.commands), Some(10_000));
-    assert_eq!(rt; summary.map(|s| s.live), live(alloc, &mut first));
-    Ok(())
+    let again = load(alloc, &mut other, 10_000, 1);
+    let is_same = summary == again;
+    let commands = summary.as_ref().map(|s| s.commands);
+    let keys = summary.map(|s| s.live);
+    Ok(first_false(&[
+        ("the same summary", is_same),
+        ("the same file", first.as_slice() == other.as_slice()),
+        ("all commands", commands == Some(10_000)),
+        (
+            "the keys that a check counts",
+            keys == live(alloc, &mut first),
+        ),
+    ]))
+}
+
+#[test]
+fn loads_are_generated(rt: HostRuntime) {
+    let alloc = rt.alloc();
+    for (table, failing) in [
+        ("small loads", failing_load(alloc)),
+        ("a load that is done twice", failing_second(alloc)),
+    ] {
+        assert_eq!(rt; failing, Ok(None), "{table}");
+    }
 }

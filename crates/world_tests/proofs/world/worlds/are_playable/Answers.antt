@@ -3,7 +3,7 @@ use Rattle.std.proofs.Common.{◌+◌, [], ◌∷◌, ◌++◌, take, get_or, sy
 use Rattle.std.proofs.lemmas.List.{take_more, take_all}
 use Rattle.std.proofs.lemmas.List.Elements.{All-push, All-same}
 use Rattle.tdb_world.specs.Courses.Playable.{IsPlayable}
-use Rattle.tdb_course_tests.proofs.worlds.are_playable.Goals as goal
+use Rattle.world_tests.proofs.world.worlds.are_playable.Goals as goal
 
 pub loop-play-preserved : goal.loop-play-preserved
 loop-play-preserved c =

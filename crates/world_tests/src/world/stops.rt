@@ -1,9 +1,8 @@
 // Stops in the midst of a commit.
 
-use crate::files::{ONE, disk_of};
-use crate::worlds::{OPTIONS, take_script, text_of};
+use crate::world::files::{ONE, disk_of};
+use crate::world::worlds::{OPTIONS, take_script, text_of};
 use std::alloc::{AllocError, Global};
-use std::test::Fail;
 use tdb_commands::TurnReport;
 use tdb_disk::{Disk, FuseDisk, MemDisk, MemSink, Pick};
 use tdb_log::Log;
@@ -67,17 +66,17 @@ fn leaves_one(alloc: Global, stopped: &Stopped) -> Result<bool, AllocError> {
     Ok(true)
 }
 
-// A transaction changes the value in the file with one record. Each stop leaves it with the old value or the new one,
-// and with the new one where the report tells that the commit is done, as it does of a disk that passes all calls.
-#[test]
-fn stops_of_commit(rt: HostRuntime) -> Result<(), Fail> {
-    let alloc = rt.alloc();
+/// The number of calls before the first stop of a commit that leaves something else, or 200 where the commit isn't done
+/// by as many. Each stop leaves the file with the old value or the new one, and with the new one where the report tells
+/// that the commit is done, as it does of a disk that passes all calls.
+pub(crate) fn failing_stop(alloc: Global) -> Result<Option<u64>, AllocError> {
     let mut committed = false;
     for k in 0..200 {
         let stopped = commit_through(alloc, k)?;
-        assert!(rt; leaves_one(alloc, &stopped)?, "{k}");
+        if !leaves_one(alloc, &stopped)? {
+            return Ok(Some(k));
+        }
         committed = stopped.committed;
     }
-    assert!(rt; committed);
-    Ok(())
+    Ok(if committed { None } else { Some(200) })
 }
