@@ -1,9 +1,9 @@
 use Rattle.std.proofs.Common.{◌≡◌, ℕ, List, false}
 use Rattle.tdb_disk.specs.MemFiles.{name_is_taken}
-use Rattle.tdb_top_tests.proofs.tables.files_of.Given as goal
+use Rattle.door_tests.proofs.tables.failing_part.Given as goal
 
 -- every file that was taken was given back
-abbrev pub invariant-loop-name : goal.invariant-loop-name
-invariant-loop-name l = record {
+abbrev pub invariant-loop-line : goal.invariant-loop-line
+invariant-loop-line l = record {
   free : (name : List ℕ) → name_is_taken l.files name ≡ false;
 }

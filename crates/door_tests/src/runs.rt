@@ -87,19 +87,3 @@ pub(crate) fn line_holds(
     let (found, bytes) = answer(alloc, files, words, text.as_bytes(), failing, logs)?;
     Ok(found == status && bytes.as_slice() == printed.as_bytes())
 }
-
-/// The status of a run of words with blanks between them, and what it prints.
-pub(crate) fn run_words(
-    alloc: Global,
-    files: &mut MemFiles,
-    output: &mut MemSink,
-    words: &str,
-) -> Result<(u8, Vec<u8>), AllocError>
-    requires { (name : List ℕ) → name_is_taken files.old name ≡ false }
-    ensures { (name : List ℕ) → name_is_taken files.new name ≡ false }
-{
-    let mut input = MemSource::new(alloc, b"")?;
-    let mut logs: Vec<Box<dyn Log>> = Vec::new(alloc);
-    let status = run_over(alloc, words, files, &mut input, output, &mut logs)?;
-    Ok((status, output.as_slice().to_vec(alloc)?))
-}

@@ -47,14 +47,6 @@ pub(crate) fn has_words(alloc: Global, bytes: &[u8], words: &[Word]) -> Result<b
     Ok(changed.as_slice() == bytes)
 }
 
-/// A file of 4096 bytes with these little-endian words.
-pub(crate) fn file_with(words: &[Word]) -> [u8; 4096] {
-    let mut image = [0; 4096];
-    image[..9].copy_from_slice(b"TDB file\n");
-    put_words(&mut image, Order::Little, words);
-    image
-}
-
 /// The header of a new file of 131 chains, as the stock tool makes it.
 pub(crate) const NEW_FILE: [Word; 4] = [
     (32, 0x2601_196D),

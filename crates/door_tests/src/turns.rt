@@ -5,7 +5,6 @@ use crate::runs::Failing::{Disk, Nothing};
 use crate::runs::{USAGE, answer};
 use crate::tables::{Left, Table, files_of};
 use std::alloc::{AllocError, Global};
-use std::test::Fail;
 use tdb_disk::{Call, MemFiles};
 
 /// Two openers store, turn by turn.
@@ -187,17 +186,21 @@ fn changes_safely(alloc: Global, call: Call) -> Result<bool, AllocError> {
     Ok(false)
 }
 
-#[test]
-fn failing_calls_of_a_commit(rt: HostRuntime) -> Result<(), Fail> {
-    for call in [
-        Call::Len,
-        Call::Read,
-        Call::Write,
-        Call::WriteWord,
-        Call::Grow,
-        Call::Sync,
-    ] {
-        assert!(rt; changes_safely(rt.alloc(), call)?, "{call:?}");
+static CALLS: [(&'static str, Call); 6] = [
+    ("lengths", Call::Len),
+    ("reads", Call::Read),
+    ("writes", Call::Write),
+    ("words", Call::WriteWord),
+    ("growths", Call::Grow),
+    ("syncs", Call::Sync),
+];
+
+/// The first calls of which that isn't so.
+pub(crate) fn failing_call(alloc: Global) -> Result<Option<&'static str>, AllocError> {
+    for (name, call) in &CALLS {
+        if !changes_safely(alloc, *call)? {
+            return Ok(Some(*name));
+        }
     }
-    Ok(())
+    Ok(None)
 }

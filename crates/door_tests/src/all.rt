@@ -1,0 +1,48 @@
+// The lines of all tables, and what else is told of runs.
+
+use crate::tables::first_failure;
+use crate::{
+    backup, changes, create, generate, inserts, limits, lines, logs, long, options, printing,
+    sessions, turns, undo, verify,
+};
+
+#[test]
+fn lines_of_tables(rt: HostRuntime) {
+    for (file, tables) in [
+        ("backup", backup::TABLES.as_slice()),
+        ("changes", changes::TABLES.as_slice()),
+        ("create", create::TABLES.as_slice()),
+        ("generate", generate::TABLES.as_slice()),
+        ("inserts", inserts::TABLES.as_slice()),
+        ("limits", limits::TABLES.as_slice()),
+        ("lines", lines::TABLES.as_slice()),
+        ("options", options::TABLES.as_slice()),
+        ("printing", printing::TABLES.as_slice()),
+        ("sessions", sessions::TABLES.as_slice()),
+        ("turns", turns::TABLES.as_slice()),
+        ("undo", undo::TABLES.as_slice()),
+        ("verify", verify::TABLES.as_slice()),
+    ] {
+        assert_eq!(rt; first_failure(rt.alloc(), tables), Ok(None), "{file}");
+    }
+}
+
+#[test]
+fn runs_beside_the_tables(rt: HostRuntime) {
+    let alloc = rt.alloc();
+    for (table, failing) in [
+        ("loads", generate::failing_load(alloc)),
+        ("loads with logs", generate::failing_log(alloc)),
+        ("checks", lines::failing_check(alloc)),
+        ("logs", logs::failing_row(alloc)),
+        ("calls that fail in a commit", turns::failing_call(alloc)),
+    ] {
+        assert_eq!(rt; failing, Ok(None), "{table}");
+    }
+}
+
+// Apart from the others, since a line of sixteen megabytes takes `rt try` longer than all of these.
+#[test]
+fn long_words_and_lines(rt: HostRuntime) {
+    assert_eq!(rt; long::failing_run(rt.alloc()), Ok(None));
+}
