@@ -1,15 +1,15 @@
 //! Runs over real files: one that is missing, one that is made, changed, checked and shown, and one that another
 //! program uses.
 
+use std::alloc::AllocError;
 use std::fs;
-use std::test::Fail;
 use tdb_disk::{Files, MemSink, MemSource, Take};
 use tdb_files::DirFiles;
 use tdb_log::Log;
 use tdb_top::{Status, run};
 
 /// The status of a run of words with blanks between them over the files of the system, and what it prints.
-fn run_words(rt: HostRuntime, words: &str) -> Result<(u8, MemSink), Fail> {
+fn run_words(rt: HostRuntime, words: &str) -> Result<(u8, MemSink), AllocError> {
     let alloc = rt.alloc();
     let mut list = Vec::new(alloc);
     for word in words.split(' ') {
@@ -31,7 +31,7 @@ struct Row {
 }
 
 /// The words of the first row that ends otherwise, if one does.
-fn first_wrong(rt: HostRuntime, rows: &[Row]) -> Result<Option<&'static str>, Fail> {
+fn first_wrong(rt: HostRuntime, rows: &[Row]) -> Result<Option<&'static str>, AllocError> {
     for row in rows {
         let (status, output) = run_words(rt, row.words)?;
         if status != row.status || output.as_slice() != row.prints.as_bytes() {
@@ -70,13 +70,13 @@ const MADE: [Row; 5] = [
     },
 ];
 
-#[test]
-fn a_real_file_is_made_changed_checked_and_shown(rt: HostRuntime) -> Result<(), Fail> {
+/// What is otherwise where a file is made, changed, checked and shown.
+fn failing_made(rt: HostRuntime) -> Result<Option<&'static str>, AllocError> {
     let file = "tdb_program_test";
     let _ = fs::remove_file(&rt, file);
-    assert_eq!(rt; first_wrong(rt, &MADE)?, None);
-    fs::remove_file(&rt, file)?;
-    Ok(())
+    let wrong = first_wrong(rt, &MADE)?;
+    let is_there = fs::remove_file(&rt, file).is_ok();
+    Ok(wrong.or((!is_there).then_some("the file is there")))
 }
 
 /// The making of a file.
@@ -100,16 +100,33 @@ const LEFT: [Row; 1] = [Row {
     prints: "number 0\n",
 }];
 
-#[test]
-fn a_file_that_another_program_uses_is_left_alone(rt: HostRuntime) -> Result<(), Fail> {
+/// What is otherwise where another program uses a file, which is left alone.
+fn failing_used(rt: HostRuntime) -> Result<Option<&'static str>, AllocError> {
     let file = "tdb_program_used";
     let _ = fs::remove_file(&rt, file);
-    assert_eq!(rt; first_wrong(rt, &CREATED)?, None);
+    let created = first_wrong(rt, &CREATED)?;
     let mut other = DirFiles::new(rt);
-    let disk = other.take(rt.alloc(), file, Take::ReadOnly)?;
-    assert_eq!(rt; first_wrong(rt, &USED)?, None);
+    let Ok(disk) = other.take(rt.alloc(), file, Take::ReadOnly) else {
+        return Ok(Some("another program takes the file"));
+    };
+    let used = first_wrong(rt, &USED);
     other.give(file, disk);
-    assert_eq!(rt; first_wrong(rt, &LEFT)?, None);
-    fs::remove_file(&rt, file)?;
-    Ok(())
+    let left = first_wrong(rt, &LEFT)?;
+    let is_there = fs::remove_file(&rt, file).is_ok();
+    Ok(
+        created
+            .or(used?)
+            .or(left)
+            .or((!is_there).then_some("the file is there")),
+    )
+}
+
+#[test]
+fn real_files_are_made_and_left_alone(rt: HostRuntime) {
+    for (table, failing) in [
+        ("a file that is made", failing_made(rt)),
+        ("a file that is used", failing_used(rt)),
+    ] {
+        assert_eq!(rt; failing, Ok(None), "{table}");
+    }
 }
