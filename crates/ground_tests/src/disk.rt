@@ -237,6 +237,14 @@ fn failing_take(alloc: Global) -> Result<Option<&'static str>, AllocError> {
     ]))
 }
 
+/// Whether a name has these bytes.
+fn holds(files: &MemFiles, name: &str, wanted: &[u8]) -> bool {
+    match files.get(name) {
+        Some(bytes) => bytes == wanted,
+        None => false,
+    }
+}
+
 /// What is otherwise where the second rename and the first removal fail.
 fn failing_rename(alloc: Global) -> Result<Option<&'static str>, AllocError> {
     let mut files = MemFiles::new(alloc);
@@ -246,7 +254,7 @@ fn failing_rename(alloc: Global) -> Result<Option<&'static str>, AllocError> {
     let renamed = files.rename("a", "b").is_ok();
     let failed = files.rename("b", "a").is_err();
     let kept = files.remove("b").is_err();
-    let held = files.get("b") == Some(b"one".as_slice());
+    let held = holds(&files, "b", b"one");
     let removed = files.remove("b").is_ok();
     Ok(first_false(&[
         ("a rename", renamed),
@@ -254,7 +262,7 @@ fn failing_rename(alloc: Global) -> Result<Option<&'static str>, AllocError> {
         ("a removal that fails", kept),
         ("what is held then", held),
         ("a removal", removed),
-        ("nothing is held then", files.get("b") == None),
+        ("nothing is held then", files.get("b").is_none()),
         ("memory is not wanting", files.starved() == 0),
     ]))
 }

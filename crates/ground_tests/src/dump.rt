@@ -93,12 +93,17 @@ static LISTINGS: [(&'static str, Listing, &'static [u8]); 3] = [
     ),
 ];
 
+/// Whether a text is the entry that is wanted.
+fn is_entry(text: &[u8], wanted: &[u8]) -> bool {
+    text == wanted
+}
+
 /// The first listing whose entry of a pair is another one.
 fn failing_listing(alloc: Global) -> Result<Option<&'static str>, AllocError> {
     for (name, listing, entry) in &LISTINGS {
         let mut text = Vec::new(alloc);
         listing.push(&mut text, b"INFO/version\0", b"\x02\0\0\0")?;
-        if text.as_slice() != *entry {
+        if !is_entry(&text, entry) {
             return Ok(Some(*name));
         }
     }

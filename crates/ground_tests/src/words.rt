@@ -202,15 +202,20 @@ static WHATS: [(&'static str, What); 14] = [
     ("Stray", What::Stray),
 ];
 
+/// Whether a text is the name that is wanted.
+fn is_text(text: &str, name: &str) -> bool {
+    text == name
+}
+
 /// The first fault of a header or a file whose text isn't its name.
 fn failing_text(alloc: Global) -> Result<Option<&'static str>, AllocError> {
     for (name, fault) in &FAULTS {
-        if fault.to_string(alloc)?.as_str() != *name {
+        if !is_text(&fault.to_string(alloc)?, name) {
             return Ok(Some(*name));
         }
     }
     for (name, what) in &WHATS {
-        if what.to_string(alloc)?.as_str() != *name {
+        if !is_text(&what.to_string(alloc)?, name) {
             return Ok(Some(*name));
         }
     }

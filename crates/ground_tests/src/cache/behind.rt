@@ -41,22 +41,29 @@ fn rows(d: &mut WriteBehind<MemDisk>) -> Result<[Row; 4], DiskFault>
     Ok([written, synced, grown, row(d)?])
 }
 
+/// Whether a row is the one that is wanted.
+fn is_row(found: Row, wanted: Row) -> bool {
+    found == wanted
+}
+
 /// What is otherwise where a sync writes what is pending.
 pub(crate) fn failing_sync(alloc: Global) -> Result<Option<&'static str>, AllocError> {
     let mut disk = WriteBehind::of_empty(alloc, MemDisk::new(alloc, b"")?);
-    let Ok([written, synced, grown, last]) = rows(&mut disk) else {
-        return Ok(Some("a call fails"));
+    let found = match rows(&mut disk) {
+        Ok(found) => found,
+        Err(_) => return Ok(Some("a call fails")),
     };
+    let [written, synced, grown, last] = found;
     Ok(first_false(&[
-        ("writes", written == (*b"1234word", [0; 8])),
-        ("a sync", synced == (*b"1234word", *b"1234word")),
+        ("writes", is_row(written, (*b"1234word", [0; 8]))),
+        ("a sync", is_row(synced, (*b"1234word", *b"1234word"))),
         (
             "a cut with a growth",
-            grown == (*b"12a\0\0\0\0\0", *b"123\0\0\0\0\0"),
+            is_row(grown, (*b"12a\0\0\0\0\0", *b"123\0\0\0\0\0")),
         ),
         (
             "one more sync",
-            last == (*b"12a\0\0\0\0\0", *b"12a\0\0\0\0\0"),
+            is_row(last, (*b"12a\0\0\0\0\0", *b"12a\0\0\0\0\0")),
         ),
     ]))
 }
@@ -86,15 +93,23 @@ pub(crate) fn failing_fault(alloc: Global) -> Result<Option<&'static str>, Alloc
     inner.fail(Call::Grow, 1)?;
     inner.fail(Call::Cut, 0)?;
     let mut disk = WriteBehind::of_empty(alloc, inner);
-    let Ok((failed, [sync, grow, cut])) = rows_with_faults(&mut disk) else {
-        return Ok(Some("another call fails"));
+    let found = match rows_with_faults(&mut disk) {
+        Ok(found) => found,
+        Err(_) => return Ok(Some("another call fails")),
     };
+    let (failed, [sync, grow, cut]) = found;
     let left = disk.finish();
     Ok(first_false(&[
         ("three calls fail", failed == 3),
-        ("a sync that fails", sync == (*b"12345678", [0; 8])),
-        ("a growth that fails", grow == (*b"12345678", *b"12345678")),
-        ("a cut that fails", cut == (*b"1234word", *b"12345678")),
+        ("a sync that fails", is_row(sync, (*b"12345678", [0; 8]))),
+        (
+            "a growth that fails",
+            is_row(grow, (*b"12345678", *b"12345678")),
+        ),
+        (
+            "a cut that fails",
+            is_row(cut, (*b"1234word", *b"12345678")),
+        ),
         (
             "what is left",
             left.as_slice() == b"1234word\0\0\0\0\0\0\0\0".as_slice(),

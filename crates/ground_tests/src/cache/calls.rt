@@ -36,18 +36,25 @@ fn rows<D: Disk>(d: &mut D) -> Result<[[u8; 8]; 5], DiskFault>
     Ok([border, written, end, grown, eight(d, 65_532)?])
 }
 
+/// Whether eight bytes are those that are wanted.
+fn is_eight(found: [u8; 8], wanted: [u8; 8]) -> bool {
+    found == wanted
+}
+
 /// What is otherwise where a disk with a cache shows what the disk within shows.
 pub(crate) fn failing_row(alloc: Global) -> Result<Option<&'static str>, AllocError> {
     let mut disk = Cached::new(alloc, MemDisk::new(alloc, b"")?);
-    let Ok([border, written, end, grown, cut]) = rows(&mut disk) else {
-        return Ok(Some("a call fails"));
+    let found = match rows(&mut disk) {
+        Ok(found) => found,
+        Err(_) => return Ok(Some("a call fails")),
     };
+    let [border, written, end, grown, cut] = found;
     Ok(first_false(&[
-        ("the border of two blocks", border == *b"11112222"),
-        ("a write there", written == *b"11word22"),
-        ("the end of the file", end == *b"\0\0\0\0WORD"),
-        ("a growth", grown == *b"WORD\0\0\0\0"),
-        ("a cut with a growth", cut == *b"11word\0\0"),
+        ("the border of two blocks", is_eight(border, *b"11112222")),
+        ("a write there", is_eight(written, *b"11word22")),
+        ("the end of the file", is_eight(end, *b"\0\0\0\0WORD")),
+        ("a growth", is_eight(grown, *b"WORD\0\0\0\0")),
+        ("a cut with a growth", is_eight(cut, *b"11word\0\0")),
         ("two blocks are kept", disk.kept() == 2),
         ("memory is not wanting", disk.starved() == 0),
     ]))
@@ -113,21 +120,37 @@ fn long_rows(d: &mut Cached<MemDisk>, buf: &mut [u8]) -> Result<[(bool, usize, u
     Ok([long, short, kept, past, looked(d, 8, buf)?])
 }
 
+/// Whether a read looks as it is wanted to.
+fn is_look(found: (bool, usize, u64), wanted: (bool, usize, u64)) -> bool {
+    found == wanted
+}
+
 /// What is otherwise where a long read keeps nothing.
 pub(crate) fn failing_long_read(alloc: Global) -> Result<Option<&'static str>, AllocError> {
     let mut buf = vec![in alloc; 0; 65_536]?;
     let mut disk = Cached::new(alloc, MemDisk::new(alloc, b"")?);
-    let Ok([long, short, kept, past, last]) = long_rows(&mut disk, &mut buf) else {
-        return Ok(Some("a call fails"));
+    let found = match long_rows(&mut disk, &mut buf) {
+        Ok(found) => found,
+        Err(_) => return Ok(Some("a call fails")),
     };
+    let [long, short, kept, past, last] = found;
     Ok(first_false(&[
-        ("a read of a block's length", long == (true, 0, 65_536)),
-        ("a short one", short == (true, 1, 131_072)),
+        (
+            "a read of a block's length",
+            is_look(long, (true, 0, 65_536)),
+        ),
+        ("a short one", is_look(short, (true, 1, 131_072))),
         (
             "a long one where a block is kept",
-            kept == (true, 1, 131_072),
+            is_look(kept, (true, 1, 131_072)),
         ),
-        ("a long one where it isn't", past == (true, 1, 196_608)),
-        ("a long one of two blocks", last == (true, 1, 262_144)),
+        (
+            "a long one where it isn't",
+            is_look(past, (true, 1, 196_608)),
+        ),
+        (
+            "a long one of two blocks",
+            is_look(last, (true, 1, 262_144)),
+        ),
     ]))
 }
