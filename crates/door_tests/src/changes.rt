@@ -1,7 +1,7 @@
 // Stores, deletes, erases and the words of transactions: what is printed, and what is left of the file.
 
-use crate::images::{Image, NEW_FILE, ONE};
-use crate::runs::Failing::{Disk, Nothing};
+use crate::images::{Image, NEW, NEW_FILE, ONE};
+use crate::runs::Failing::{Disk, Nothing, Output};
 use crate::runs::USAGE;
 use crate::tables::{Left, Table};
 use small_file::RECORD;
@@ -20,12 +20,24 @@ const FREED: Image = Image {
     ..ONE
 };
 
-pub(crate) static TABLES: [Table; 6] = [
+pub(crate) static TABLES: [Table; 7] = [
     Table {
         files: &[("f.tdb", ONE)],
         in_turn: 1,
-        lines: &[("tool f.tdb store a 2", "", Nothing, 0, "ok\n")],
+        lines: &[
+            ("tool f.tdb store a 2", "", Nothing, 0, "ok\n"),
+            ("tool f.tdb storehex 61 32", "", Nothing, 0, "ok\n"),
+        ],
         left: &[("f.tdb", Left::Bytes(STORED))],
+    },
+    Table {
+        files: &[("f.tdb", NEW)],
+        in_turn: 1,
+        lines: &[
+            ("tool f.tdb store a 1", "", Nothing, 0, "ok\n"),
+            ("tool f.tdb storehex 61 31", "", Nothing, 0, "ok\n"),
+        ],
+        left: &[("f.tdb", Left::Bytes(ONE))],
     },
     Table {
         files: &[("f.tdb", STORED)],
@@ -55,6 +67,29 @@ pub(crate) static TABLES: [Table; 6] = [
         lines: &[
             ("tool f.tdb check", "", Nothing, 0, "number 1\n"),
             ("tool f.tdb store a", "", Nothing, 2, USAGE),
+            ("tool f.tdb storehex 6 31", "", Nothing, 2, USAGE),
+            ("tool f.tdb storehex 61 3g", "", Nothing, 2, USAGE),
+            ("tool f.tdb storehex \\61 31", "", Nothing, 2, USAGE),
+            ("tool f.tdb storehex 61", "", Nothing, 2, USAGE),
+            ("tool f.tdb storehex 61 31 31", "", Nothing, 2, USAGE),
+            (
+                "tool g.tdb storehex 61 31",
+                "",
+                Nothing,
+                9,
+                "missing g.tdb\n",
+            ),
+            ("tool f.tdb quit", "", Nothing, 0, ""),
+            ("tool f.tdb quit", "", Output(0), 0, ""),
+            ("tool f.tdb quit a", "", Nothing, 2, USAGE),
+            ("tool g.tdb quit", "", Nothing, 9, "missing g.tdb\n"),
+            (
+                "tool f.tdb quit",
+                "",
+                Disk("f.tdb", Call::Read, 0),
+                4,
+                "device fault\n",
+            ),
             ("tool f.tdb delete b", "", Nothing, 1, "noexist\n"),
             ("tool f.tdb delete", "", Nothing, 2, USAGE),
             ("tool f.tdb delete a b", "", Nothing, 2, USAGE),

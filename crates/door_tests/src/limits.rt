@@ -37,6 +37,13 @@ pub(crate) static TABLES: [Table; 4] = [
                 "toolong 4096\n",
             ),
             (
+                "tool --limit 4095 f.tdb quit",
+                "",
+                Nothing,
+                6,
+                "toolong 4096\n",
+            ),
+            (
                 "tool --limit 4095 f.tdb first",
                 "",
                 Nothing,
@@ -73,6 +80,13 @@ pub(crate) static TABLES: [Table; 4] = [
         lines: &[
             (
                 "tool f.tdb store a 1 --limit 727",
+                "",
+                Nothing,
+                6,
+                "full 696 32\n",
+            ),
+            (
+                "tool f.tdb storehex 61 31 --limit 727",
                 "",
                 Nothing,
                 6,

@@ -57,7 +57,7 @@ const KEPT: &str = "open\nsetlog\ndo 1 store a 1\n";
 const KEPT_TOLD: &str =
     "1 open\nlog 1\n1 step\n1 step\n1 step\n1 step\ngrew 696 4096\n1 step\n1 done ok\n";
 
-static ROWS: [(&'static str, Row); 16] = [
+static ROWS: [(&'static str, Row); 17] = [
     (
         "a store that grows the file",
         Row {
@@ -85,6 +85,17 @@ static ROWS: [(&'static str, Row); 16] = [
         Row {
             file: GATE,
             line: ("tool f.tdb show a", "", Nothing, 0, "data(1) = \"1\"\n"),
+            logs: 1,
+            failing: None,
+            left: 1,
+            told: &[Notice::Recovered { bytes: 5 }, ONE_KEY],
+        },
+    ),
+    (
+        "a quit behind a recovery",
+        Row {
+            file: GATE,
+            line: ("tool f.tdb quit", "", Nothing, 0, ""),
             logs: 1,
             failing: None,
             left: 1,

@@ -10,7 +10,7 @@ use tdb_disk::Call;
 const THREE: &str =
     "{\nkey(1) = \"a\"\ndata(1) = \"1\"\n}\n{\nkey(0) = \"\"\ndata(1) = \"\\AB\"\n}\n{\nkey(1) = \"b\"\ndata(1) = \"2\"\n}\n";
 
-pub(crate) static TABLES: [Table; 5] = [
+pub(crate) static TABLES: [Table; 6] = [
     // A record as services keep them: its key ends in a zero byte.
     Table {
         files: &[],
@@ -131,12 +131,34 @@ pub(crate) static TABLES: [Table; 5] = [
         ],
         left: &[("f.tdb", Left::Bytes(ONE))],
     },
+    // Words of pairs of digits of either case, and empty ones.
+    Table {
+        files: &[],
+        in_turn: 7,
+        lines: &[
+            ("tool f.tdb create", "", Nothing, 0, "ok\n"),
+            ("tool f.tdb storehex aB FfFF00", "", Nothing, 0, "ok\n"),
+            (
+                "tool f.tdb show \\AB",
+                "",
+                Nothing,
+                0,
+                "data(3) = \"\\FF\\FF\\00\"\n",
+            ),
+            ("tool f.tdb storehex AB \"\"", "", Nothing, 0, "ok\n"),
+            ("tool f.tdb show \\ab", "", Nothing, 0, "data(0) = \"\"\n"),
+            ("tool f.tdb storehex  31", "", Nothing, 0, "ok\n"),
+            ("tool f.tdb show \"\"", "", Nothing, 0, "data(1) = \"1\"\n"),
+        ],
+        left: &[("f.tdb", Left::Checks("number 2\n"))],
+    },
     Table {
         files: &[("f.tdb", STRAY)],
         in_turn: 1,
         lines: &[
             ("tool f.tdb keys", "", Nothing, 3, "corrupt Stray 4068\n"),
             ("tool f.tdb first", "", Nothing, 3, "corrupt Stray 4068\n"),
+            ("tool f.tdb quit", "", Nothing, 3, "corrupt Stray 4068\n"),
         ],
         left: &[("f.tdb", Left::Bytes(STRAY))],
     },

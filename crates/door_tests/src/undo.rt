@@ -53,6 +53,7 @@ pub(crate) static TABLES: [Table; 7] = [
                 1,
                 "notransaction\n",
             ),
+            ("tool f.tdb quit", "", Nothing, 0, ""),
         ],
         left: &[("f.tdb", Left::Bytes(ONE))],
     },

@@ -1,4 +1,5 @@
 pub mod Items
+pub mod HexLemmas
 pub mod ShortWords
 pub mod WordReadings
 pub mod Sizes

@@ -10,7 +10,7 @@ use Rattle.tdb_cmdline.specs.declared.look.Look.{Look}
 use Rattle.tdb_cmdline.specs.declared.look.Look.TheVariants.{Dump, Value}
 use Rattle.tdb_cmdline.specs.declared.act.Act.{Act}
 use Rattle.tdb_cmdline.specs.declared.act.Verb.{Verb}
-use Rattle.tdb_cmdline.specs.declared.act.Verb.TheVariants.{Show, Insert, Store, Delete, Erase, Check, First, Next, TransactionStart, TransactionCommit, TransactionCancel}
+use Rattle.tdb_cmdline.specs.declared.act.Verb.TheVariants.{Show, Insert, Store, Delete, Erase, Check, First, Next, TransactionStart, TransactionCommit, TransactionCancel, Quit}
 use Rattle.tdb_cmdline.specs.declared.ask.Task.{Task}
 use Rattle.tdb_cmdline.specs.declared.ask.Task.TheVariants.{Create, On, Read, Print, Restore, Backup, Verify, Turns, Session, Generate}
 use Rattle.tdb_cmdline.specs.declared.ask.Ask as C
@@ -19,7 +19,7 @@ use Rattle.tdb_cmdline.specs.declared.options.Command.TheVariants as command
 use Rattle.tdb_cmdline.specs.declared.options.Line.{Line}
 use Rattle.tdb_cmdline.specs.Words.{of_one, of_three}
 use Rattle.tdb_cmdline.specs.Options.{commands, told, line_of, limit_in}
-use Rattle.tdb_cmdline.specs.Acts.{show_of, insert_of, store_of, delete_of, alone_of, print_of}
+use Rattle.tdb_cmdline.specs.Acts.{show_of, insert_of, store_of, storehex_of, delete_of, alone_of, print_of}
 use Rattle.tdb_cmdline.specs.Lines.Create.{create_of}
 use Rattle.tdb_cmdline.specs.CopyNames.{BackupFits, VerifyFits}
 use Rattle.tdb_cmdline.specs.Lines.Backup.{asks_of}
@@ -50,6 +50,7 @@ tools limit =
     (codes "show", λ arguments. option_map (on_file limit) (show_of arguments))
     ∷ (codes "insert", λ arguments. option_map (on_file limit) (insert_of arguments))
     ∷ (codes "store", λ arguments. option_map (on_file limit) (store_of arguments))
+    ∷ (codes "storehex", λ arguments. option_map (on_file limit) (storehex_of arguments))
     ∷ (codes "delete", λ arguments. option_map (on_file limit) (delete_of arguments))
     ∷ (codes "erase", λ arguments. option_map (on_file limit) (alone_of Erase arguments))
     ∷ (codes "check", λ arguments. option_map (on_file limit) (alone_of Check arguments))
@@ -58,6 +59,7 @@ tools limit =
     ∷ (codes "transaction_start", λ arguments. option_map (on_file limit) (alone_of TransactionStart arguments))
     ∷ (codes "transaction_commit", λ arguments. option_map (on_file limit) (alone_of TransactionCommit arguments))
     ∷ (codes "transaction_cancel", λ arguments. option_map (on_file limit) (alone_of TransactionCancel arguments))
+    ∷ (codes "quit", λ arguments. option_map (on_file limit) (alone_of Quit arguments))
     ∷ (codes "dump", λ arguments. option_map (print_file limit) (print_of Pairs arguments))
     ∷ (codes "keys", λ arguments. option_map (print_file limit) (print_of Keys arguments))
     ∷ (codes "hexkeys", λ arguments. option_map (print_file limit) (print_of HexKeys arguments))
@@ -140,6 +142,7 @@ VerbFits Next = Unit {0}
 VerbFits TransactionStart = Unit {0}
 VerbFits TransactionCommit = Unit {0}
 VerbFits TransactionCancel = Unit {0}
+VerbFits Quit = Unit {0}
 
 -- those of this act are, and its file may be no longer than the longest one
 abbrev pub ActFits : Act → Type 0

@@ -1,4 +1,5 @@
 pub mod Limits
+pub mod Hex
 pub mod Words
 pub mod CopyNames
 pub mod Options

@@ -7,6 +7,7 @@ use Rattle.tdb_dump.specs.Escape.{hex_value}
 use Rattle.tdb_space.specs.Pairs.{same_key}
 use Rattle.tdb_open.specs.declared.limits.TheConstants.{LONGEST_FILE}
 use Rattle.tdb_cmdline.specs.declared.limits.TheConstants.{LONGEST_WORD, LONGEST_NUMBER, MOST_CHAINS}
+use Rattle.tdb_cmdline.specs.Hex.{hex_bytes}
 
 -- a word that isn't too long
 abbrev pub is_short : List ℕ → Bool
@@ -39,6 +40,10 @@ bytes_of word = if same_key word (34 ∷ 34 ∷ []) then Some [] else letters_of
 -- the bytes of a word that stands for a key or a value
 abbrev pub value_of : List ℕ → Option (List ℕ)
 value_of word = if is_short word then bytes_of word else None
+
+-- the same of a word of pairs of hexadecimal digits
+abbrev pub hex_value_of : List ℕ → Option (List ℕ)
+hex_value_of word = if is_short word then hex_bytes word else None
 
 -- a word of one digit or more and nothing else
 abbrev pub all_digits : List ℕ → Bool

@@ -1,12 +1,12 @@
 // The commands on a file that is there, and the reading of their arguments.
 
 ghost use Rattle.std.specs.Prelude.{◌≡◌, ◌+◌, ◌≤◌, length, IfOk, IfSome};
-ghost use Rattle.tdb_cmdline.specs.Acts.{show_of, pair_of, insert_of, store_of, delete_of, alone_of};
+ghost use Rattle.tdb_cmdline.specs.Acts.{show_of, spelled, pair_of, insert_of, store_of, storehex_of, delete_of, alone_of};
 ghost use Rattle.tdb_cmdline.specs.Ask.{VerbFits};
 ghost use Rattle.tdb_cmdline.specs.declared.limits.TheConstants.{LONGEST_WORD as longest};
 
 use crate::names::Text;
-use crate::words::value_of;
+use crate::words::{hex_value_of, value_of};
 use std::alloc::{AllocError, Global};
 use tdb_words::Bytes;
 
@@ -45,6 +45,19 @@ pub enum Verb {
 
     /// To cancel the transaction that the opener has.
     TransactionCancel,
+
+    /// To open it and give it back.
+    Quit,
+}
+
+/// How the words of a key and of a value are spelled.
+#[derive(Clone, Copy, Debug, PartialEq, Eq)]
+pub(crate) enum Spelling {
+    /// As words of a command.
+    Letters,
+
+    /// As pairs of hexadecimal digits.
+    HexPairs,
 }
 
 /// What is asked of a file that is there.
@@ -56,18 +69,33 @@ pub struct Act {
     pub limit: u64,
 }
 
+/// The key or the value that a word stands for, where it has a reading. It is no longer than the word.
+fn spelled_value(alloc: Global, spelling: Spelling, word: &str) -> Result<Option<Bytes>, AllocError>
+    ensures read { IfOk result (λ bytes. bytes ≡ spelled spelling word.now) }
+    ensures short { IfOk result (λ bytes. IfSome bytes (λ b. length b ≤ longest)) }
+{
+    match spelling {
+        Spelling::Letters => value_of(alloc, word),
+        Spelling::HexPairs => hex_value_of(alloc, word),
+    }
+}
+
 /// The key and the value that two words stand for, where they are the only ones and have a reading.
-fn key_and_value(alloc: Global, arguments: &[Text]) -> Result<Option<(Bytes, Bytes)>, AllocError>
-    ensures read { IfOk result (λ pair. pair ≡ pair_of arguments.now) }
+fn key_and_value(
+    alloc: Global,
+    spelling: Spelling,
+    arguments: &[Text],
+) -> Result<Option<(Bytes, Bytes)>, AllocError>
+    ensures read { IfOk result (λ pair. pair ≡ pair_of spelling arguments.now) }
     ensures short { IfOk result (λ pair. IfSome pair (λ p. length p.0 + length p.1 ≤ longest + longest)) }
 {
     let [first, second] = arguments else {
         return Ok(None);
     };
-    let Some(key) = value_of(alloc, first.as_str())? else {
+    let Some(key) = spelled_value(alloc, spelling, first.as_str())? else {
         return Ok(None);
     };
-    match value_of(alloc, second.as_str())? {
+    match spelled_value(alloc, spelling, second.as_str())? {
         Some(value) => Ok(Some((key, value))),
         None => Ok(None),
     }
@@ -93,7 +121,7 @@ impl Verb {
         ensures read { IfOk result (λ verb. verb ≡ insert_of arguments.now) }
         ensures fits { IfOk result (λ verb. IfSome verb VerbFits) }
     {
-        match key_and_value(alloc, arguments)? {
+        match key_and_value(alloc, Spelling::Letters, arguments)? {
             Some((key, value)) => Ok(Some(Verb::Insert { key, value })),
             None => Ok(None),
         }
@@ -104,7 +132,18 @@ impl Verb {
         ensures read { IfOk result (λ verb. verb ≡ store_of arguments.now) }
         ensures fits { IfOk result (λ verb. IfSome verb VerbFits) }
     {
-        match key_and_value(alloc, arguments)? {
+        match key_and_value(alloc, Spelling::Letters, arguments)? {
+            Some((key, value)) => Ok(Some(Verb::Store { key, value })),
+            None => Ok(None),
+        }
+    }
+
+    /// Reads the arguments of `storehex`.
+    pub(crate) fn of_storehex(alloc: Global, arguments: &[Text]) -> Result<Option<Verb>, AllocError>
+        ensures read { IfOk result (λ verb. verb ≡ storehex_of arguments.now) }
+        ensures fits { IfOk result (λ verb. IfSome verb VerbFits) }
+    {
+        match key_and_value(alloc, Spelling::HexPairs, arguments)? {
             Some((key, value)) => Ok(Some(Verb::Store { key, value })),
             None => Ok(None),
         }

@@ -103,6 +103,7 @@ impl Task {
             "show" => Ok(Task::on(limit, Verb::of_show(alloc, arguments)?)),
             "insert" => Ok(Task::on(limit, Verb::of_insert(alloc, arguments)?)),
             "store" => Ok(Task::on(limit, Verb::of_store(alloc, arguments)?)),
+            "storehex" => Ok(Task::on(limit, Verb::of_storehex(alloc, arguments)?)),
             "delete" => Ok(Task::on(limit, Verb::of_delete(alloc, arguments)?)),
             "erase" => Ok(Task::on(limit, Verb::without_arguments(Verb::Erase, arguments))),
             "check" => Ok(Task::on(limit, Verb::without_arguments(Verb::Check, arguments))),
@@ -120,6 +121,7 @@ impl Task {
                 let verb = Verb::without_arguments(Verb::TransactionCancel, arguments);
                 Ok(Task::on(limit, verb))
             }
+            "quit" => Ok(Task::on(limit, Verb::without_arguments(Verb::Quit, arguments))),
             "dump" => Ok(Task::print(limit, Listing::Pairs, arguments)),
             "keys" => Ok(Task::print(limit, Listing::Keys, arguments)),
             "hexkeys" => Ok(Task::print(limit, Listing::HexKeys, arguments)),

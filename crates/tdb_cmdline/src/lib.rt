@@ -3,6 +3,7 @@
 
 mod act;
 mod ask;
+mod hex;
 mod limits;
 mod lines;
 mod look;
@@ -12,6 +13,7 @@ mod words;
 
 pub use act::{Act, Verb};
 pub use ask::{Ask, Task};
+pub use hex::hex_bytes_of;
 pub use limits::{DEFAULT_SIZE, LONGEST_NUMBER, LONGEST_WORD, MOST_CHAINS, limits_law};
 pub use lines::create::NewFile;
 pub use look::Look;

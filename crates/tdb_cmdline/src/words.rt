@@ -4,6 +4,7 @@ ghost use Rattle.std.specs.Prelude.{◌≡◌, ◌≤◌, ℕ, None, IfOk, IfSom
 ghost use Rattle.tdb_cmdline.specs.declared.limits.TheConstants.{LONGEST_WORD as longest};
 ghost use Rattle.tdb_cmdline.specs.Words as W;
 
+use crate::hex::hex_bytes_of;
 use crate::limits::{LONGEST_NUMBER, LONGEST_WORD, MOST_CHAINS};
 use std::alloc::{AllocError, Global};
 use tdb_dump::{WordRefusal, word_bytes_of};
@@ -52,6 +53,18 @@ pub(crate) fn value_of(alloc: Global, word: &str) -> Result<Option<Bytes>, Alloc
         return Ok(None);
     }
     bytes_of(alloc, word.as_bytes())
+}
+
+/// The key or the value that a word of pairs of hexadecimal digits stands for, where it is one. It is no longer than the
+/// word.
+pub(crate) fn hex_value_of(alloc: Global, word: &str) -> Result<Option<Bytes>, AllocError>
+    ensures read { IfOk result (λ bytes. bytes ≡ W.hex_value_of word.now) }
+    ensures short { IfOk result (λ bytes. IfSome bytes (λ b. length b ≤ longest)) }
+{
+    if !is_short(word) {
+        return Ok(None);
+    }
+    hex_bytes_of(alloc, word.as_bytes())
 }
 
 /// The number from `least` to `most` that a word writes, from what it parses as.

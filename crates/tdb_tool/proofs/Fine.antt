@@ -2,8 +2,9 @@
 use Rattle.std.proofs.Common.{ℕ, ◌<◌, ◌≤◌, List, [], ◌∷◌, length, length-append, ap, Bool, true, false, Some, inl, inr, arith}
 use Rattle.std.specs.Prelude.{◌^◌}
 use Rattle.std.specs.Str.{bytes_eq}
-use Rattle.tdb_dump.specs.Escape.{IsLetter, Letters}
-use Rattle.tdb_dump.specs.Word.{stands_in_word, IsWord}
+use Rattle.tdb_dump.specs.Word.{IsWord}
+use Rattle.tdb_cmdline.proofs.HexLemmas.{hex_short}
+use Rattle.tdb_cmdline.proofs.ShortWords.{word_short}
 use Rattle.tdb_script.specs.Lines.{words_of}
 use Rattle.tdb_script.proofs.EachRow.{of_row}
 use Rattle.tdb_script.proofs.PartLemmas.{NoLonger, words_no_longer}
@@ -12,24 +13,8 @@ use Rattle.tdb_tool.specs.Rows.{bare_orders, key_orders, value_orders}
 use Rattle.tdb_tool.specs.Orders.{storehex, IsSpelled, IsOrder}
 use Rattle.tdb_tool.specs.Asking.{Says}
 use Rattle.tdb_tool.specs.Parts.{IsServedOrder}
-use Rattle.tdb_tool.proofs.HexLemmas.{hex_short}
 
--- a word of a command stands for no more bytes than it has
-letters_short : (text bytes : List ℕ) → Letters stands_in_word text bytes → length bytes ≤ length text
-letters_short text [] p = omega arith
-letters_short text (b ∷ bytes) p =
-    let rest = letters_short p.1 bytes p.4 in
-    let some : 0 < length p.0 = letter_length p.0 b p.3 in
-    omega (arith, rest, some, ap length p.2, length-append p.0 p.1)
-  where
-    letter_length : (front : List ℕ) (c : ℕ) → IsLetter stands_in_word front c → 0 < length front
-    letter_length front c (inl l) = omega (arith, ap length l.0)
-    letter_length front c (inr l) = omega (arith, ap length l.4)
-
-word_short : (word bytes : List ℕ) → IsWord word bytes → length bytes ≤ length word
-word_short word bytes (inl p) = omega (arith, ap length p.1)
-word_short word bytes (inr p) = letters_short word bytes p.1
-
+-- a word stands for no more bytes than it has
 spelled_short : (hex : Bool) (word bytes : List ℕ) → IsSpelled hex word bytes → length bytes ≤ length word
 spelled_short true word bytes p = hex_short word bytes p
 spelled_short false word bytes p = word_short word bytes p

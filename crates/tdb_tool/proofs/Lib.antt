@@ -1,5 +1,4 @@
 pub mod Telling
-pub mod HexLemmas
 pub mod LineLemmas
 pub mod Stops
 pub mod Hearing

@@ -1,4 +1,3 @@
-pub mod Hex
 pub mod Rows
 pub mod Orders
 pub mod Asking

@@ -4,7 +4,7 @@ use Rattle.std.specs.Str.{bytes_eq}
 use Rattle.tdb_dump.specs.Word.{IsWord}
 use Rattle.tdb_script.specs.Rows.{row_of}
 use Rattle.tdb_tool.specs.declared.order.Order.{Order}
-use Rattle.tdb_tool.specs.Hex.{hex_bytes}
+use Rattle.tdb_cmdline.specs.Hex.{hex_bytes}
 use Rattle.tdb_tool.specs.Rows.{bare_orders, key_orders, value_orders}
 
 -- the name behind which words are pairs of hexadecimal digits

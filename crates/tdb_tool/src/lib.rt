@@ -3,7 +3,6 @@
 
 mod asking;
 mod fault;
-mod hex;
 mod limits;
 mod lines;
 mod order;

@@ -5,9 +5,9 @@ ghost use Rattle.std.specs.Str.{bytes_eq};
 ghost use Rattle.tdb_script.specs.Lines.{words_of};
 ghost use Rattle.tdb_tool.specs.Orders.{storehex, ReadsAs, BytesRead};
 
-use crate::hex::hex_bytes_of;
 use crate::rows::{bare_order, key_order, value_order};
 use std::alloc::{AllocError, Global};
+use tdb_cmdline::hex_bytes_of;
 use tdb_commands::Command;
 use tdb_dump::{Listing, WordRefusal, word_bytes_of};
 use tdb_script::first_word;

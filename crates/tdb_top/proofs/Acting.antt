@@ -8,7 +8,7 @@ use Rattle.tdb_disk.specs.declared.files.TakeRefusal.{TakeRefusal}
 use Rattle.tdb_disk.specs.declared.files.TakeRefusal.TheVariants as Take
 use Rattle.tdb_cmdline.specs.declared.act.Act.{Act}
 use Rattle.tdb_cmdline.specs.declared.act.Verb.{Verb}
-use Rattle.tdb_cmdline.specs.declared.act.Verb.TheVariants.{Show, Insert, Store, Delete, Erase, Check, First, Next, TransactionStart, TransactionCommit, TransactionCancel}
+use Rattle.tdb_cmdline.specs.declared.act.Verb.TheVariants.{Show, Insert, Store, Delete, Erase, Check, First, Next, TransactionStart, TransactionCommit, TransactionCancel, Quit}
 use Rattle.tdb_steps.specs.Wiped.{at_end}
 use Rattle.tdb_open.specs.declared.halt.Refusal.TheVariants.{TooLong}
 use Rattle.tdb_cmdline.specs.declared.ask.Task.{Task}
@@ -53,6 +53,7 @@ done_breaks Next limit old now does = does
 done_breaks TransactionStart limit old now does = does
 done_breaks TransactionCommit limit old now does = does
 done_breaks TransactionCancel limit old now does = does
+done_breaks Quit limit old now does = does
 
 -- the growth wasn't told of a file on which an act was done
 pub growth_untold : (limit : ℕ) (verb : Verb) (old mid now : History) (fault : Fault) → Acted limit verb old mid (Ok Done) → now ≡ mid → (fault ≡ F.Device) ⊎ (fault ≡ F.Log) → ActedAndTold limit verb old now (Err fault)

@@ -14,7 +14,7 @@ use Rattle.tdb_cmdline.specs.declared.lines.create.NewFile.{NewFile}
 use Rattle.tdb_top.specs.declared.ending.Ending.{Ending}
 use Rattle.tdb_top.specs.declared.ending.Ending.TheVariants.{Replied, Refused, Missing, There, Usage, DeviceFault, InputFault, Malformed, NoMemory, LogFault}
 use Rattle.tdb_top.specs.declared.ending.Reply.{Reply}
-use Rattle.tdb_top.specs.declared.ending.Reply.TheVariants.{Done, Value, Escaped, Dumped, Restored, Copied, Verified, KeyMissing, KeyThere, NoTransaction, Full, Number, Pair, End, Played, Generated}
+use Rattle.tdb_top.specs.declared.ending.Reply.TheVariants.{Done, Value, Escaped, Dumped, Restored, Copied, Verified, KeyMissing, KeyThere, NoTransaction, Full, Number, Pair, End, Played, Closed, Generated}
 use Rattle.tdb_open.specs.declared.halt.Refusal.{Refusal}
 use Rattle.tdb_open.specs.declared.halt.Refusal.TheVariants.{TooLong, Header, Corrupt, NeedsRecovery}
 use Rattle.tdb_open.specs.declared.limits.TheConstants.{LONGEST_FILE}
@@ -65,6 +65,7 @@ reply_status Restored = inl refl
 reply_status Copied = inl refl
 reply_status Verified = inl refl
 reply_status Played = inl refl
+reply_status Closed = inl refl
 reply_status (Generated text) = inl refl
 reply_status (Number n) = inl refl
 reply_status (Pair key value) = inl refl
@@ -180,16 +181,18 @@ exits tells run e t printed (inr part) = inr (inr part.exits)
 exits tells run e t (inl same) (inl all) = inl (all.exits ∙ ap status_of same)
 exits tells run e t (inr want) (inl all) = inr (inl (all.exits ∙ ap status_of want.0, want.1))
 
--- a restore, a backup or a verification that was done has no line, and so its status is 0
+-- a restore, a backup, a verification or a `quit` that was done has no line, and so its status is 0
 silent_status : (t : Ending) → IsSilent t → status_of t ≡ 0
 silent_status t (inl is) = ap status_of is
 silent_status t (inr (inl is)) = ap status_of is
-silent_status t (inr (inr is)) = ap status_of is
+silent_status t (inr (inr (inl is))) = ap status_of is
+silent_status t (inr (inr (inr is))) = ap status_of is
 
 silent_needs : (t : Ending) → IsSilent t → TakesMemory t → ⊥
 silent_needs t (inl is) takes = false≢true (subst TakesMemory is takes)
 silent_needs t (inr (inl is)) takes = false≢true (subst TakesMemory is takes)
-silent_needs t (inr (inr is)) takes = false≢true (subst TakesMemory is takes)
+silent_needs t (inr (inr (inl is))) takes = false≢true (subst TakesMemory is takes)
+silent_needs t (inr (inr (inr is))) takes = false≢true (subst TakesMemory is takes)
 
 pub silent_exits : (tells : Bool) (run : Run) (e t : Ending) → PrintedFor e t → Printed tells run e → IsSilent t → run.status ≡ 0
 silent_exits tells run e t (inl same) (inl all) silent = all.exits ∙ ap status_of same ∙ silent_status t silent
@@ -940,7 +943,7 @@ module _ (run : Run) (logs later : List Logged) (t : Ending) (out : Exits run.st
   backing_up more suffix name asks = backup_run run.faults_before run.faults_after run.status suffix (name ∷ more) run.old run.now t out counted (λ done. silent (inr (inl done))) (asked_left (Backup more suffix) name asks)
 
   verifying : (more : List (List ℕ)) (suffix name : List ℕ) → run.ask ≡ Some (record { file = name; task = Verify more suffix }) → VerifyRun suffix (name ∷ more) run.old run.faults_before run.faults_after run.status run.now
-  verifying more suffix name asks = verify_run run.faults_before run.faults_after run.status suffix (name ∷ more) run.old run.now t out counted (λ done. silent (inr (inr done))) (asked_left (Verify more suffix) name asks)
+  verifying more suffix name asks = verify_run run.faults_before run.faults_after run.status suffix (name ∷ more) run.old run.now t out counted (λ done. silent (inr (inr (inl done)))) (asked_left (Verify more suffix) name asks)
 
   printed : (listing : Listing) (limit : ℕ) (name : List ℕ) (old : History) → PrintsOf run listing limit name old → (h : History) × (run.now name ≡ Some h) × PrintRun limit old run.faults_before run.faults_after run.status h
   printed listing limit name old of =
@@ -1036,7 +1039,7 @@ module _ (run : Run) (logs later : List Logged) (t : Ending) (out : Exits run.st
       ((backup_run run.faults_before run.faults_after run.status suffix (file ∷ more) run.old run.now t out counted (λ done. silent (inr (inl done))) at).stopped keeps.0) name (λ among. copy (more, suffix, file, inl (refl, among))) (same name)
   task_kept keeps (Verify more suffix) file name asks midway same at copy =
       verify_kept suffix run.old run.now _ (λ broken. elim broken.0 [ inl four ↦ keeps.1 four | inr eight ↦ keeps.2 eight ]) (file ∷ more)
-      ((verify_run run.faults_before run.faults_after run.status suffix (file ∷ more) run.old run.now t out counted (λ done. silent (inr (inr done))) at).stopped keeps.0) name (λ among. copy (more, suffix, file, inr (refl, among))) (same name)
+      ((verify_run run.faults_before run.faults_after run.status suffix (file ∷ more) run.old run.now t out counted (λ done. silent (inr (inr (inl done)))) at).stopped keeps.0) name (λ among. copy (more, suffix, file, inr (refl, among))) (same name)
   task_kept keeps (Turns options) file name asks midway same at copy = at_name name file (file_kept keeps midway options file (run.old file) at) (same name)
   task_kept keeps (Session limit) file name asks midway same at copy = at_name name file (session_kept keeps limit file midway asks (run.old file) refl at) (same name)
   task_kept keeps (Generate commands seed) file name asks midway same at copy =

@@ -38,6 +38,7 @@ reply_wanting text written R.Restored takes is = is
 reply_wanting text written R.Copied takes is = is
 reply_wanting text written R.Verified takes is = is
 reply_wanting text written R.Played takes is = is
+reply_wanting text written R.Closed takes is = is
 reply_wanting text written (R.Generated summary) takes is = is
 reply_wanting text written (R.Number n) takes is = is
 reply_wanting text written (R.Pair key value) takes is = is
@@ -177,7 +178,8 @@ heard (Some ask) files output told = task_heard ask.task files output told
 silent_text : (e : Ending) → IsSilent e → text_of e ≡ []
 silent_text e (inl is) = ap text_of is
 silent_text e (inr (inl is)) = ap text_of is
-silent_text e (inr (inr is)) = ap text_of is
+silent_text e (inr (inr (inl is))) = ap text_of is
+silent_text e (inr (inr (inr is))) = ap text_of is
 
 -- a front of a list is one of a longer list
 front_of_more : (xs ys : List ℕ) (n : ℕ) → (m : ℕ) × (take m (xs ++ ys) ≡ take n xs)
@@ -190,16 +192,20 @@ front_of_more xs ys n = elim (cases_lt n (length xs)) [
 rest_tells : (rest : Unprinted) → IsSilent (rest_of rest) → ⊥
 rest_tells Rest.Pairs (inl is) = cc
 rest_tells Rest.Pairs (inr (inl is)) = cc
-rest_tells Rest.Pairs (inr (inr is)) = cc
+rest_tells Rest.Pairs (inr (inr (inl is))) = cc
+rest_tells Rest.Pairs (inr (inr (inr is))) = cc
 rest_tells Rest.Report (inl is) = cc
 rest_tells Rest.Report (inr (inl is)) = cc
-rest_tells Rest.Report (inr (inr is)) = cc
+rest_tells Rest.Report (inr (inr (inl is))) = cc
+rest_tells Rest.Report (inr (inr (inr is))) = cc
 rest_tells Rest.Fault (inl is) = cc
 rest_tells Rest.Fault (inr (inl is)) = cc
-rest_tells Rest.Fault (inr (inr is)) = cc
+rest_tells Rest.Fault (inr (inr (inl is))) = cc
+rest_tells Rest.Fault (inr (inr (inr is))) = cc
 rest_tells Rest.Files (inl is) = cc
 rest_tells Rest.Files (inr (inl is)) = cc
-rest_tells Rest.Files (inr (inr is)) = cc
+rest_tells Rest.Files (inr (inr (inl is))) = cc
+rest_tells Rest.Files (inr (inr (inr is))) = cc
 
 module _ (ask : Option Ask) (held : List ℕ → Option History) (files tells : Bool) (before mid after : List ℕ) (start middle last : ℕ) where
   abbrev Text : Ending → List ℕ → Type 0

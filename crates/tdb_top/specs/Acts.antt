@@ -3,7 +3,7 @@ use Rattle.std.specs.Prelude.{◌≡◌, ◌≢◌, ◌⊎◌, ◌≤◌, ℕ, L
 use Rattle.tdb_disk.specs.History.{History, seen}
 use Rattle.tdb_cmdline.specs.declared.act.Act.{Act}
 use Rattle.tdb_cmdline.specs.declared.act.Verb.{Verb}
-use Rattle.tdb_cmdline.specs.declared.act.Verb.TheVariants.{Show, Insert, Store, Delete, Erase, Check, First, Next, TransactionStart, TransactionCommit, TransactionCancel}
+use Rattle.tdb_cmdline.specs.declared.act.Verb.TheVariants.{Show, Insert, Store, Delete, Erase, Check, First, Next, TransactionStart, TransactionCommit, TransactionCancel, Quit}
 use Rattle.tdb_top.specs.declared.ending.Reply.{Reply}
 use Rattle.tdb_top.specs.declared.ending.Reply.TheVariants.{Done}
 use Rattle.tdb_open.specs.declared.halt.Fault.{Fault}
@@ -19,6 +19,7 @@ use Rattle.tdb_top.specs.Commands.Delete.{delete_reply, Deletes, DeleteBroken}
 use Rattle.tdb_top.specs.Commands.Erase.{erase_reply, Erases, EraseBroken}
 use Rattle.tdb_top.specs.Commands.First.{first_reply, next_reply}
 use Rattle.tdb_top.specs.Commands.Transaction.{start_reply, commit_reply, cancel_reply}
+use Rattle.tdb_top.specs.Commands.Quit.{quit_reply}
 
 -- what is replied over a file that is read as these bytes and may have so many, and what an act replies so
 abbrev pub verb_reply : ℕ → Verb → List ℕ → Reply
@@ -33,6 +34,7 @@ verb_reply limit Next img = next_reply img
 verb_reply limit TransactionStart img = start_reply img
 verb_reply limit TransactionCommit img = commit_reply img
 verb_reply limit TransactionCancel img = cancel_reply img
+verb_reply limit Quit img = quit_reply img
 
 abbrev pub reply_of : Act → List ℕ → Reply
 reply_of act img = verb_reply act.limit act.verb img
@@ -51,6 +53,7 @@ Does limit Next old now = now ≡ old
 Does limit TransactionStart old now = now ≡ old
 Does limit TransactionCommit old now = now ≡ old
 Does limit TransactionCancel old now = now ≡ old
+Does limit Quit old now = now ≡ old
 
 -- what a call that failed in the midst of an act leaves of an opened file; of an insert and of a store nothing is said
 abbrev pub Breaks : Verb → History → History → Type 0
@@ -65,6 +68,7 @@ Breaks Next old now = now ≡ old
 Breaks TransactionStart old now = now ≡ old
 Breaks TransactionCommit old now = now ≡ old
 Breaks TransactionCancel old now = now ≡ old
+Breaks Quit old now = now ≡ old
 
 -- what an act leaves of an opened file: what it is to do where it replies that it is done, else the file as it was
 pub record Leaves (limit : ℕ) (verb : Verb) (old now : History) : Type 0 where

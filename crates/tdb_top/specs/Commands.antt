@@ -7,6 +7,7 @@ pub mod Delete
 pub mod Erase
 pub mod First
 pub mod Transaction
+pub mod Quit
 pub mod Create
 pub mod Dump
 pub mod Print

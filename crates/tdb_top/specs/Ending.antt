@@ -14,7 +14,7 @@ use Rattle.tdb_cmdline.specs.declared.ask.Task.{Task}
 use Rattle.tdb_cmdline.specs.declared.ask.Task.TheVariants.{Create, On, Read, Print, Restore, Backup, Verify, Turns, Session, Generate}
 use Rattle.tdb_top.specs.declared.ending.Ending.{Ending}
 use Rattle.tdb_top.specs.declared.ending.Ending.TheVariants.{Replied, Refused, Missing, There, Usage, DeviceFault, InputFault, Malformed, NoMemory, LogFault}
-use Rattle.tdb_top.specs.declared.ending.Reply.TheVariants.{Done, Value, Escaped, Dumped, Restored, Copied, Verified, KeyMissing, KeyThere, NoTransaction, Full, Number, Pair, End, Played, Generated}
+use Rattle.tdb_top.specs.declared.ending.Reply.TheVariants.{Done, Value, Escaped, Dumped, Restored, Copied, Verified, KeyMissing, KeyThere, NoTransaction, Full, Number, Pair, End, Played, Closed, Generated}
 use Rattle.tdb_open.specs.declared.halt.Halt as H
 use Rattle.tdb_open.specs.declared.halt.Refusal.{Refusal}
 use Rattle.tdb_open.specs.declared.halt.Refusal.TheVariants.{TooLong, Header, Corrupt, NeedsRecovery}
@@ -57,6 +57,7 @@ answer (Replied Restored) = exits 0
 answer (Replied Copied) = exits 0
 answer (Replied Verified) = exits 0
 answer (Replied Played) = exits 0
+answer (Replied Closed) = exits 0
 answer (Replied (Generated text)) = shows 0 text
 answer (Replied (Number n)) = tells 0 (codes "number " ++ decimal n)
 answer (Replied (Pair key value)) = tells 0 (pair_line key value)

@@ -7,7 +7,7 @@ use Rattle.tdb_cmdline.specs.declared.ask.Task.{Task}
 use Rattle.tdb_cmdline.specs.declared.ask.Task.TheVariants.{Create, On, Read, Print, Restore, Backup, Verify, Turns, Session, Generate}
 use Rattle.tdb_top.specs.declared.ending.Ending.{Ending}
 use Rattle.tdb_top.specs.declared.ending.Ending.TheVariants.{Replied}
-use Rattle.tdb_top.specs.declared.ending.Reply.TheVariants.{Restored, Copied, Verified}
+use Rattle.tdb_top.specs.declared.ending.Reply.TheVariants.{Restored, Copied, Verified, Closed}
 use Rattle.tdb_cmdline.specs.Ask.{Ask}
 use Rattle.tdb_top.specs.Ending.{Prints, status_of, text_of}
 use Rattle.tdb_top.specs.Output.{Output}
@@ -59,9 +59,9 @@ pub record WritesAll (told : Bool) (o : Output) (Text : Ending → List ℕ → 
   pub exits : status ≡ status_of e
   pub written : IsTrue told → (text : List ℕ) × Text e text × (o.after ≡ o.before ++ text ++ text_of e)
 
--- a restore, a backup or a verification that was done, for which no line is written
+-- a restore, a backup, a verification or a `quit` that was done, for which no line is written
 abbrev pub IsSilent : Ending → Type 0
-IsSilent e = (e ≡ Replied Restored) ⊎ (e ≡ Replied Copied) ⊎ (e ≡ Replied Verified)
+IsSilent e = (e ≡ Replied Restored) ⊎ (e ≡ Replied Copied) ⊎ (e ≡ Replied Verified) ⊎ (e ≡ Replied Closed)
 
 -- the output failed: it took a part of them, from the first byte on; there was something to be written
 pub record WritesPart (told : Bool) (o : Output) (Text : Ending → List ℕ → Type 0) (e : Ending) (status : ℕ) : Type 0 where

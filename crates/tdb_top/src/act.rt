@@ -21,6 +21,7 @@ use crate::commands::delete::delete;
 use crate::commands::erase::erase;
 use crate::commands::first::{first, next};
 use crate::commands::insert::insert;
+use crate::commands::quit::quit;
 use crate::commands::show::show;
 use crate::commands::store::store;
 use crate::commands::transaction::{cancel, commit, start};
@@ -70,6 +71,7 @@ fn perform<D: Disk>(alloc: Global, act: &Act, disk: &mut D, opened: &Opened) -> 
         Verb::TransactionStart => Ok(start()),
         Verb::TransactionCommit => Ok(commit()),
         Verb::TransactionCancel => Ok(cancel()),
+        Verb::Quit => Ok(quit()),
     }
 }
 

@@ -10,6 +10,7 @@ pub(crate) mod first;
 pub(crate) mod generate;
 pub(crate) mod insert;
 pub(crate) mod print;
+pub(crate) mod quit;
 pub(crate) mod restore;
 pub(crate) mod session;
 pub(crate) mod show;

@@ -63,6 +63,9 @@ pub(crate) enum Reply {
     /// All files were verified, and it was told how many keys they have. No line tells more.
     Verified,
 
+    /// A file was opened and given back. No line tells it.
+    Closed,
+
     /// All plays of a script were taken, and their report was printed; or all commands of a session, and their replies.
     /// No line tells it.
     Played,
@@ -273,6 +276,7 @@ impl Ending {
             Ending::Replied(Reply::Done | Reply::Value(_) | Reply::Escaped(_)) => Status(0),
             Ending::Replied(Reply::Dumped | Reply::Restored) => Status(0),
             Ending::Replied(Reply::Copied | Reply::Verified | Reply::Played) => Status(0),
+            Ending::Replied(Reply::Closed) => Status(0),
             Ending::Replied(Reply::Generated(_)) => Status(0),
             Ending::Replied(Reply::Number(_) | Reply::Pair { key: _, value: _ } | Reply::End) =>
                 Status(0),
@@ -305,6 +309,7 @@ impl Ending {
             Ending::Replied(Reply::Done) => Some(b"ok\n"),
             Ending::Replied(Reply::Dumped | Reply::Restored) => Some(b""),
             Ending::Replied(Reply::Copied | Reply::Verified | Reply::Played) => Some(b""),
+            Ending::Replied(Reply::Closed) => Some(b""),
             Ending::Replied(Reply::End) => Some(b"end\n"),
             Ending::Replied(Reply::KeyMissing) => Some(b"noexist\n"),
             Ending::Replied(Reply::KeyThere) => Some(b"exists\n"),

@@ -1,11 +1,18 @@
 -- Pairs of hexadecimal digits that are read one after the other.
-use Rattle.std.proofs.Common.{◌≡◌, ℕ, ◌<◌, ◌≤◌, List, [], ◌∷◌, ◌++◌, length, drop, Option, None, Some, Bool, true, false, refl, sym, ◌∙◌, ap, arith, if◌then◌else◌}
-use Rattle.std.proofs.lemmas.List.{append_assoc}
+use Rattle.std.proofs.Common.{◌≡◌, ℕ, ◌<◌, ◌≤◌, List, [], ◌∷◌, ◌++◌, length, drop, Option, None, Some, Bool, true, false, take, unwrap_or, ◌-◌, refl, sym, ◌∙◌, ap, arith, if◌then◌else◌}
+use Rattle.std.specs.Prelude.{IfSome}
+use Rattle.std.proofs.lemmas.List.{append_assoc, length-drop, take_all}
 use Rattle.std.specs.Option.{option_map}
 use Rattle.std.specs.Str.{bytes_eq}
 use Rattle.tdb_dump.specs.Escape.{hex_value}
-use Rattle.tdb_script.proofs.ReadLemmas.{same_some}
-use Rattle.tdb_tool.specs.Hex.{byte_of, byte_in_front, onto, hex_pairs, hex_bytes}
+use Rattle.tdb_cmdline.specs.Hex.{byte_of, byte_in_front, onto, hex_pairs, hex_bytes}
+
+same_some : (a b : List ℕ) (o : Option (List ℕ)) → o ≡ Some a → o ≡ Some b → a ≡ b
+same_some a b o p q = ap (λ x. unwrap_or x a) (sym p ∙ q)
+
+-- the rest behind a place, as a slice shows it
+pub rest_behind : (xs : List ℕ) (n : ℕ) → take (length xs - n) (drop n xs) ≡ drop n xs
+rest_behind xs n = take_all (length xs - n) (drop n xs) (omega (arith, length-drop n xs))
 
 -- nothing in front of what is left
 pub none_before : (o : Option (List ℕ)) → o ≡ option_map (λ rest. [] ++ rest) o
@@ -58,6 +65,10 @@ pairs_short (h ∷ l ∷ digits) bytes e =
     let p = onto_some (byte_of (hex_value h) (hex_value l)) (hex_pairs digits) bytes e in
     let rest = pairs_short digits p.1 p.2 in
     omega (arith, rest, ap length p.3)
+
+pub no_longer : (digits : List ℕ) (o : Option (List ℕ)) → o ≡ hex_pairs digits → IfSome o (λ b. length b ≤ length digits)
+no_longer digits None is = tt
+no_longer digits (Some bytes) is = pairs_short digits bytes (sym is)
 
 pub hex_short : (word bytes : List ℕ) → hex_bytes word ≡ Some bytes → length bytes ≤ length word
 hex_short word bytes e = of (bytes_eq word (34 ∷ 34 ∷ [])) e

@@ -1,7 +1,7 @@
 // Words of pairs of hexadecimal digits.
 
 ghost use Rattle.std.specs.Prelude.{◌≡◌, ◌≤◌, length, IfOk, IfSome};
-ghost use Rattle.tdb_tool.specs.Hex.{byte_in_front, hex_pairs, hex_bytes};
+ghost use Rattle.tdb_cmdline.specs.Hex.{byte_in_front, hex_pairs, hex_bytes};
 
 use std::alloc::{AllocError, Global};
 use tdb_dump::hex_value;
@@ -38,8 +38,10 @@ fn pairs_of(alloc: Global, digits: &[u8]) -> Result<Option<Bytes>, AllocError>
 }
 
 /// The bytes that a word of pairs of hexadecimal digits stands for, where it is one. The two characters `""` are none.
-pub(crate) fn hex_bytes_of(alloc: Global, word: &[u8]) -> Result<Option<Bytes>, AllocError>
-    ensures { IfOk result (λ bytes. bytes ≡ hex_bytes word.now) }
+/// They are no more than those of the word.
+pub fn hex_bytes_of(alloc: Global, word: &[u8]) -> Result<Option<Bytes>, AllocError>
+    ensures read { IfOk result (λ bytes. bytes ≡ hex_bytes word.now) }
+    ensures short { IfOk result (λ bytes. IfSome bytes (λ b. length b ≤ length word.now)) }
 {
     if word == b"\"\"".as_slice() {
         return Ok(Some(Bytes::new(alloc)));

@@ -1,9 +1,8 @@
 use Rattle.std.proofs.Common.{◌≡◌, ◌∙◌, ◌<◌, ◌≤◌, ◌++◌, length, drop, ap, refl, sym, subst, rules, arith, Some}
 use Rattle.std.specs.Option.{option_map}
-use Rattle.tdb_script.proofs.CutLemmas.{rest_behind}
-use Rattle.tdb_tool.specs.Hex.{hex_pairs}
-use Rattle.tdb_tool.proofs.HexLemmas.{none_before, no_pairs, more_pairs, all_pairs}
-use Rattle.tdb_tool.proofs.hex.pairs_of.Goals as goal
+use Rattle.tdb_cmdline.specs.Hex.{hex_pairs}
+use Rattle.tdb_cmdline.proofs.HexLemmas.{rest_behind, none_before, no_pairs, more_pairs, all_pairs}
+use Rattle.tdb_cmdline.proofs.hex.pairs_of.Goals as goal
 
 pub loop-left-init : goal.loop-left-init
 loop-left-init c =
