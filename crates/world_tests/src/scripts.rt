@@ -199,19 +199,19 @@ fn failing_line(alloc: Global) -> Option<&'static str> {
 /// What is otherwise with lines one behind the other, and the text of a reply.
 fn failing_text(alloc: Global) -> Result<Option<&'static str>, AllocError> {
     let mut out = MemSink::new(alloc);
-    let mut written = 0;
+    let mut whole = true;
     for line in [
         Line::Joined { who: 1 },
         turn_line(1, Turn::Step),
         done_line(1, Reply::Ok),
     ] {
-        if write_line(alloc, &mut out, &line).is_ok() {
-            written += 1;
+        if write_line(alloc, &mut out, &line).is_err() {
+            whole = false;
         }
     }
     let number = text_of_reply(alloc, &Reply::Number(7));
     Ok(first_false(&[
-        ("three lines", written == 3),
+        ("three lines", whole),
         (
             "one behind the other",
             out.as_slice() == b"1 open\n1 step\n1 done ok\n".as_slice(),
