@@ -17,8 +17,9 @@ use crate::refusal::CheckRefusal;
 use tdb_space::Space;
 use tdb_words::{PADDING, What};
 
-/// How many bytes are read at once.
-const BLOCK: usize = 4096;
+/// How many bytes are read at once: as many as a disk that keeps blocks reads past them, so that long stretches of such
+/// bytes aren't kept.
+const BLOCK: usize = 65536;
 
 /// Where the first byte stands that is neither 0 nor padding.
 fn first_content(bytes: &[u8]) -> Option<usize>
@@ -33,7 +34,7 @@ fn scan_gap<S: Space>(
     s: &mut S,
     from: u64,
     to: u64,
-    block: &mut [u8; 4096],
+    block: &mut [u8; 65536],
 ) -> Result<(), CheckRefusal>
     requires within { to ≤ S.size s.old }
     ensures clean { OnOk result (IsTrue S.tells → NoContent (S.image s.old) from to) }

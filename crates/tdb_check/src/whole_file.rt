@@ -64,7 +64,7 @@ fn report_in_sequence<S: Space>(
 /// are walked along.
 ///
 /// It takes time n log n in the number n of records. In a walk a record costs one read where its header, key and tailer
-/// stand within 128 bytes; bytes that belong to no record are read in blocks of 4096. Keys are read again only where
+/// stand within 128 bytes; bytes that belong to no record are read in blocks of 65,536. Keys are read again only where
 /// two of a chain, or in the first pass two of the file, have one Jenkins hash, whatever the file's own hash is. The
 /// first pass keeps 12 bytes a chain and 12 a used record, and forgets them before a walk. That keeps 8 bytes a record,
 /// and somewhat more for each record of the list that it follows, whatever its keys are. It changes nothing.
