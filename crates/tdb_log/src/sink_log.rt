@@ -1,6 +1,6 @@
 // A log that is written to a sink.
 
-ghost use Rattle.std.specs.Prelude.{◌≡◌, ◌≤◌, ◌++◌, [], ℕ, IsTrue, false, length, take, OnOk, OnErr};
+ghost use Rattle.std.specs.Prelude.{◌≡◌, ◌≤◌, ◌++◌, [], ℕ, IsTrue, false, length, take, IfErr, OnOk, OnErr};
 ghost use Rattle.tdb_disk.specs.Count.{HasCauseOf};
 ghost use Rattle.tdb_log.specs.Texts.{notice_line};
 
@@ -34,6 +34,7 @@ impl<K: Sink + Drop> Log for SinkLog<K> {
         ensures line { OnOk result (IsTrue K.tells → K.written self.new.sink ≡ K.written self.old.sink ++ notice_line notice.now) }
         ensures front { OnErr result (IsTrue K.tells → (n : ℕ) × (n ≤ length (notice_line notice.now))
             × (K.written self.new.sink ≡ K.written self.old.sink ++ take n (notice_line notice.now))) }
+        ensures no_memory { IfErr result (λ refusal. refusal ≡ LogRefusal.Failed) }
         ensures cause { HasCauseOf LogRefusal.Failed (K.faults self.old.sink) (K.faults self.new.sink) result }
     {
         match self.sink.write(notice.line().as_str().as_bytes()) {
