@@ -1,5 +1,5 @@
 -- A list of logs, of which the last is told notices.
-use Rattle.std.specs.Prelude.{ℕ, ◌≡◌, List, [], ◌∷◌, ◌++◌, Bool, IsTrue, Option, None, Some}
+use Rattle.std.specs.Prelude.{ℕ, ◌≡◌, ◌≢◌, List, [], ◌∷◌, ◌++◌, Bool, IsTrue, Option, None, Some}
 use Rattle.tdb_disk.specs.Count.{Rose}
 use Rattle.tdb_log.specs.declared.log.LogRefusal.{LogRefusal}
 use Rattle.tdb_log.specs.declared.log.LogRefusal.TheVariants.{Failed, Memory}
@@ -31,6 +31,11 @@ LastBecame Became [] new = new ≡ []
 LastBecame Became (log ∷ []) new = (now : Logged) × (new ≡ now ∷ []) × Became log now
 LastBecame Became (log ∷ next ∷ others) new = (now : List Logged) × (new ≡ log ∷ now) × LastBecame Became (next ∷ others) now
 
+-- The last of logs refused a notice. Where there is none, nothing is refused.
+pub record LastRefused (refusal : LogRefusal) (old new : List Logged) : Type 0 where
+  pub some : old ≢ []
+  pub last : LastBecame (Refused refusal) old new
+
 -- logs but the last
 abbrev pub but_last : List Logged → List Logged
 but_last [] = []
@@ -55,4 +60,4 @@ pub record ToldUpTo (refusal : LogRefusal) (notices : List Notice) (old new : Li
   pub parts : notices ≡ front ++ notice ∷ rest
   pub mid : List Logged
   pub told : ToldAll front old mid
-  pub refused : LastBecame (Refused refusal) mid new
+  pub refused : LastRefused refusal mid new

@@ -1,7 +1,7 @@
 // The logs of a run, of which the last is told what becomes of the file.
 
 ghost use Rattle.std.specs.Prelude.{◌≡◌, List, map, length, OnOk, IfErr};
-ghost use Rattle.tdb_log.specs.Logs.{Logged, Took, Refused, LastBecame, but_last};
+ghost use Rattle.tdb_log.specs.Logs.{Logged, Took, LastBecame, LastRefused, but_last};
 
 use crate::log::{Log, LogRefusal};
 use crate::notice::Notice;
@@ -12,10 +12,10 @@ pub trait Logs {
     /// Each log, as a contract sees it.
     ghost logs: { Self → List Logged };
 
-    /// Tells the last log one more notice. After a refusal its notices are as before.
+    /// Tells the last log one more notice. After a refusal its notices are as before. With no log it is Ok.
     fn note(&mut self, notice: &Notice) -> Result<(), LogRefusal>
         ensures taken { OnOk result (LastBecame (Took notice.now) (logs self.old) (logs self.new)) }
-        ensures refused { IfErr result (λ refusal. LastBecame (Refused refusal) (logs self.old) (logs self.new)) };
+        ensures refused { IfErr result (λ refusal. LastRefused refusal (logs self.old) (logs self.new)) };
 
     /// Drops the last log, where there is one. How many are left.
     fn drop_last(&mut self) -> usize
