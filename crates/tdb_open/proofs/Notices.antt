@@ -1,5 +1,5 @@
 -- What logs hear of an opening, from what its parts told them.
-use Rattle.std.proofs.Common.{◌≡◌, ◌≢◌, ℕ, false, List, [], ◌∷◌, ◌++◌, length, Some, None, Result, Ok, Err, refl, sym, ◌∙◌, ap, subst, inl, inr, arith, append_assoc}
+use Rattle.std.proofs.Common.{◌≡◌, ◌≢◌, ◌<◌, ℕ, false, List, [], ◌∷◌, ◌++◌, length, Some, None, Result, Ok, Err, refl, sym, ◌∙◌, ap, subst, inl, inr, arith, append_assoc}
 use Rattle.std.specs.Prelude.{◌==◌, IfOk, IfErr, OnOk, count_by, sum_by}
 use Rattle.std.proofs.lemmas.Bool.{cases_lt, false≢true}
 use Rattle.tdb_disk.specs.Count.{HasCauseOf}
@@ -19,7 +19,7 @@ use Rattle.tdb_check.specs.Front.{Refuses}
 use Rattle.tdb_check.specs.Report.{Counted, chained, bytes_held_by_none}
 use Rattle.tdb_check.specs.declared.front.FrontRefusal as Front
 use Rattle.tdb_check.specs.declared.report.Report.{Report}
-use Rattle.tdb_log.specs.Logs.{Logged, Took, Refused as LogRefused, LastBecame, ToldAll, ToldUpTo}
+use Rattle.tdb_log.specs.Logs.{Logged, Took, LastBecame, LastRefused, ToldAll, ToldUpTo}
 use Rattle.tdb_log.specs.declared.log.LogRefusal.{LogRefusal}
 use Rattle.tdb_log.specs.declared.log.LogRefusal.TheVariants as L
 use Rattle.tdb_log.specs.declared.notice.Notice.{Notice}
@@ -33,7 +33,7 @@ use Rattle.tdb_open.specs.declared.halt.Refusal.{Refusal}
 use Rattle.tdb_open.specs.declared.halt.Refusal.TheVariants.{TooLong, Header, Corrupt, NeedsRecovery}
 use Rattle.tdb_open.specs.declared.opening.Opened.{Opened}
 use Rattle.tdb_open.specs.Opening.{opened_bytes, CanRead, HasOpenGate, IsUndone, IsOpenedOn, IsCheckedOn, UndoneIfOpen, HaltsRightly, ReadHaltsRightly, HaltsAtFault, HaltLeaves, asks_for_undo, of_front, of_undo, of_log}
-use Rattle.tdb_open.specs.Notices.{checked, refusal_tells, verdict, UndoTells, OpeningTells, tells_checked, tells_refused, UndoTold, RefusesNotice, OpeningHeard, UndoHeard, ReadingHeard, BelowHeard}
+use Rattle.tdb_open.specs.Notices.{checked, refusal_tells, verdict, UndoTells, OpeningTells, tells_checked, tells_refused, UndoTold, RefusesNotice, OpeningHeard, UndoHeard, ReadingHeard, IsTooLong, BelowHeard}
 use Rattle.tdb_open.proofs.Openings.{none_some, no_open_gate, read_opened}
 
 -- notices that were told, and then more
@@ -54,7 +54,7 @@ told_then_refused refusal a b old mid new here more = record {
 }
 
 -- the first of some notices is refused
-pub first_refused : (refusal : LogRefusal) (notice : Notice) (rest : List Notice) (old new : List Logged) → LastBecame (LogRefused refusal) old new → ToldUpTo refusal (notice ∷ rest) old new
+pub first_refused : (refusal : LogRefusal) (notice : Notice) (rest : List Notice) (old new : List Logged) → LastRefused refusal old new → ToldUpTo refusal (notice ∷ rest) old new
 first_refused refusal notice rest old new refused = record { front = []; notice = notice; rest = rest; parts = refl; mid = old; told = refl; refused = refused }
 
 -- none is where there are none
@@ -138,7 +138,7 @@ module _ (img : List ℕ) (undone : IsUndone img) (bytes : ℕ) (sum : bytes ≡
   ]
 
   -- a log refuses to be told of the undo
-  pub undo_refused : (refusal : LogRefusal) (old new : List Logged) → LastBecame (LogRefused refusal) old new → UndoHeard img old new (Err (of_log refusal))
+  pub undo_refused : (refusal : LogRefusal) (old new : List Logged) → LastRefused refusal old new → UndoHeard img old new (Err (of_log refusal))
   undo_refused refusal old new refused = let on = undo_goes_on in
       refusal_undo img refusal old new (N.Recovered bytes ∷ on.0, on.1, first_refused refusal (N.Recovered bytes) on.0 old new refused)
 
@@ -253,6 +253,10 @@ refused_cause refusal before after faults now answer cause up = record {
 -- of a file whose length can't be told, or that has more bytes than it may, logs hear nothing
 pub no_length_heard : (limit : ℕ) (img : List ℕ) (logs : List Logged) → BelowHeard limit img logs logs (Err Device)
 no_length_heard limit img logs = elim (cases_lt limit (length img)) [
-  | inl more ↦ inl (more, refl)
+  | inl more ↦ inl (more, refl, inr refl)
   | inr within ↦ inr (within, inl refl)
 ]
+
+-- where its length is known, and too great, that is answered
+pub long_unheard : (limit len : ℕ) (img : List ℕ) (logs : List Logged) → len ≡ length img → limit < len → (limit < length img) × (logs ≡ logs) × IsTooLong img (Err (Refused (TooLong len)))
+long_unheard limit len img logs is past = (omega (arith, is, past), refl, inl (ap (λ n. Err (Refused (TooLong n))) is))

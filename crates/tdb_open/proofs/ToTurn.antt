@@ -64,7 +64,7 @@ module _ (options : Options) (old now : History) (within : length (seen old) ≤
 -- what logs heard where its length isn't known
 pub unknown_heard : (options : Options) (img : List ℕ) (logs : List Logged) → TurnOpeningHeard options img logs logs (Err H.Device)
 unknown_heard options img logs = elim (cases_lt options.limit (length img)) [
-  | inl longer ↦ inl (longer, refl)
+  | inl longer ↦ inl (longer, refl, inr refl)
   | inr within ↦ inr (within, of options.read_only)
 ]
   where

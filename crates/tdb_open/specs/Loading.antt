@@ -10,7 +10,7 @@ use Rattle.tdb_open.specs.declared.halt.Refusal.TheVariants.{TooLong}
 use Rattle.tdb_open.specs.declared.halt.Halt.{Halt}
 use Rattle.tdb_open.specs.declared.halt.Halt.TheVariants as H
 use Rattle.tdb_open.specs.declared.opening.Opened.{Opened}
-use Rattle.tdb_open.specs.Notices.{OpeningHeard, ReadingHeard}
+use Rattle.tdb_open.specs.Notices.{IsTooLong, OpeningHeard, ReadingHeard}
 use Rattle.tdb_open.specs.Opening.{opened_bytes, CanOpen, IsRefused, IsRefusedToRead, SameOrUndone, UndoneIfOpen}
 
 -- a file with these bytes is opened with these options: it isn't too long for them, and where it is to be read alone
@@ -49,14 +49,15 @@ OpenedToTurn options old now (Err H.Memory) = SameOrUndone old now
 OpenedToTurn options old now (Err H.Log) = SameOrUndone old now
 
 -- What logs heard of an opening of a file with these bytes with these options, by its answer: of reading it alone, or
--- of any other opening. A file that is too long isn't looked into.
+-- of any other opening. A file that is too long isn't looked into, and they hear nothing of it.
 abbrev pub OpeningHeardBy : Bool → List ℕ → List Logged → List Logged → Result Opened Halt → Type 0
 OpeningHeardBy true = ReadingHeard
 OpeningHeardBy false = OpeningHeard
 
 abbrev pub TurnOpeningHeard : Options → List ℕ → List Logged → List Logged → Result Opened Halt → Type 0
 TurnOpeningHeard options img logs later answer =
-    ((options.limit < length img) × (later ≡ logs)) ⊎ ((length img ≤ options.limit) × OpeningHeardBy options.read_only img logs later answer)
+    ((options.limit < length img) × (later ≡ logs) × IsTooLong img answer)
+    ⊎ ((length img ≤ options.limit) × OpeningHeardBy options.read_only img logs later answer)
 
 -- what was opened where a world was loaded
 abbrev pub opened_of : {W : Type 0} → Result (W × Opened) Halt → Result Opened Halt

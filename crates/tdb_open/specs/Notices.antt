@@ -81,6 +81,12 @@ ReadingHeard img old new (Err Device) = new ≡ old
 ReadingHeard img old new (Err Memory) = (new ≡ old) ⊎ RefusesNotice L.Memory img old new
 ReadingHeard img old new (Err Log) = RefusesNotice L.Failed img old new
 
--- The same of an opening of a file that may have so many bytes: one that has more isn't looked into.
+-- What is answered of a file that has more bytes than it may, and isn't looked into: that it is too long, unless its
+-- length couldn't be read. So no log failed, and memory wasn't wanting.
+abbrev pub IsTooLong : List ℕ → Result Opened Halt → Type 0
+IsTooLong img answer = (answer ≡ Err (Refused (TooLong (length img)))) ⊎ (answer ≡ Err Device)
+
+-- What logs heard of an opening of a file that may have so many bytes: nothing of one that has more.
 abbrev pub BelowHeard : ℕ → List ℕ → List Logged → List Logged → Result Opened Halt → Type 0
-BelowHeard limit img old new answer = ((limit < length img) × (new ≡ old)) ⊎ ((length img ≤ limit) × OpeningHeard img old new answer)
+BelowHeard limit img old new answer =
+    ((limit < length img) × (new ≡ old) × IsTooLong img answer) ⊎ ((length img ≤ limit) × OpeningHeard img old new answer)

@@ -1,10 +1,11 @@
-use Rattle.std.proofs.Common.{◌≡◌, ◌≤◌, ◌<◌, true, Ok, length, refl, ap, subst, inl, inr, arith}
+use Rattle.std.proofs.Common.{◌≡◌, ◌≤◌, ◌<◌, true, Ok, length, ap, subst, inl, inr, arith}
 use Rattle.std.proofs.lemmas.Result.{err_from_is_err_and}
 use Rattle.tdb_disk.specs.History.{History, seen}
 use Rattle.tdb_open.specs.Loading.{OpenedToTurn}
 use Rattle.tdb_open.specs.Opening.{OpensSafely}
 use Rattle.tdb_open.proofs.Openings.{still_safe}
 use Rattle.tdb_open.specs.Loading.{TurnOpeningHeard}
+use Rattle.tdb_open.proofs.Notices.{long_unheard}
 use Rattle.tdb_open.proofs.ToTurn.{opened_short, unknown_heard}
 use Rattle.tdb_open.proofs.loading.open_to_turn.Goals as goal
 use Rattle.tdb_open.proofs.loading.open_to_turn.Goals.{After-open_as_asked, In_ok-opened}
@@ -59,7 +60,9 @@ returns-in_err-len-clause-heard g c =
     (λ told. unknown_heard c.args.options.now (seen (g.D.Disk.history c.args.disk.now)) (g.L.Logs.logs c.args.logs.now))
 
 pub returns-then-len-options-clause-heard : goal.returns-then-len-options-clause-heard
-returns-then-len-options-clause-heard g c told = inl (omega (arith, g.met.D.Disk.told_size c.args.disk.now told, c.in_ok-len.ensures.length, c.in_ok-len.ensures.size, c.if-len-options.true), refl)
+returns-then-len-options-clause-heard g c told =
+    inl (long_unheard c.args.options.now.limit c.in_ok-len.len (seen (g.D.Disk.history c.args.disk.now)) (g.L.Logs.logs c.args.logs.now)
+    (omega (arith, g.met.D.Disk.told_size c.args.disk.now told, c.in_ok-len.ensures.length)) c.if-len-options.true)
 
 -- what the opening tells
 opens_heard : (g : _) (c : After-open_as_asked g) → g.D.Disk.tells ≡ true → TurnOpeningHeard c.args.options.now (seen (g.D.Disk.history c.args.disk.now)) (g.L.Logs.logs c.args.logs.now) (g.L.Logs.logs c.open_as_asked.new.logs) c.open_as_asked.result

@@ -1,12 +1,12 @@
-use Rattle.std.proofs.Common.{rules, ◌≡◌, ◌≤◌, Err, length, refl, sym, subst, inl, inr, arith}
-use Rattle.std.specs.Prelude.{◌<◌, IsTrue, IfOk, IfErr}
+use Rattle.std.proofs.Common.{rules, ◌≡◌, ◌≤◌, Err, length, sym, subst, inl, inr, arith}
+use Rattle.std.specs.Prelude.{IsTrue, IfOk, IfErr}
 use Rattle.tdb_disk.specs.History.{History, seen}
 use Rattle.tdb_open.specs.declared.halt.Halt.TheVariants.{Device}
 use Rattle.tdb_open.specs.Opening.{IsOpenedOn, LeavesBelow, HaltsBelow}
 use Rattle.tdb_open.proofs.Errors.{if_this_err}
 use Rattle.tdb_open.proofs.Openings.{long_halts, long_leaves, within_opened, halted_below, left_below}
 use Rattle.tdb_open.specs.Notices.{BelowHeard, OpeningHeard}
-use Rattle.tdb_open.proofs.Notices.{no_length_heard}
+use Rattle.tdb_open.proofs.Notices.{no_length_heard, long_unheard}
 use Rattle.tdb_open.proofs.opening.Opened.open_below.Goals as goal
 
 -- its length couldn't be told
@@ -60,8 +60,8 @@ returns-in_err-len-clause-heard g c told =
 
 pub returns-then-len-limit-clause-heard : goal.returns-then-len-limit-clause-heard
 returns-then-len-limit-clause-heard g c told =
-    let more : c.args.limit < length (seen (g.D.Disk.history c.args.disk.now)) = omega (arith, g.met.D.Disk.told_size c.args.disk.now told, c.in_ok-len.ensures.length, c.if-len-limit.true) in
-    inl (more, refl)
+    inl (long_unheard c.args.limit c.in_ok-len.len (seen (g.D.Disk.history c.args.disk.now)) (g.L.Logs.logs c.args.logs.now)
+    (omega (arith, g.met.D.Disk.told_size c.args.disk.now told, c.in_ok-len.ensures.length)) c.if-len-limit.true)
 
 pub returns-clause-heard : goal.returns-clause-heard
 returns-clause-heard g c told =
