@@ -16,9 +16,8 @@ mod unread;
 
 pub use crate::cut::{first_word, line_end};
 pub use crate::laws::script_law;
-pub use crate::limits::LONGEST_SCRIPT;
+pub use crate::limits::{LONGEST_SCRIPT, MOST_NUMBER, limits_law};
 pub use crate::line::write_line;
-pub use crate::number::MOST_NUMBER;
 pub use crate::reply::text_of_reply;
 pub use crate::script::{ScriptRefusal, read_script};
 pub use crate::text::text_of;

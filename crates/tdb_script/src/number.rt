@@ -3,10 +3,8 @@
 ghost use Rattle.std.specs.Prelude.{◌≡◌, ℕ, IfSome, None};
 ghost use Rattle.tdb_script.specs.Number.{IsNumber};
 
+use crate::limits::MOST_NUMBER;
 use crate::text::text_of;
-
-/// The greatest number: nine digits.
-pub const MOST_NUMBER: u32 = 999_999_999;
 
 /// The number that the word writes.
 pub(crate) fn number_of(word: &[u8]) -> Option<u32>
