@@ -1,12 +1,12 @@
 -- A script that is read line by line.
-use Rattle.std.proofs.Common.{◌≡◌, ℕ, ◌+◌, ◌<◌, ◌≤◌, List, [], ◌∷◌, ◌++◌, length, refl, sym, ap, ◌∙◌, subst, Option, Some, None, inl, inr, arith, Bor, ◌⊎◌}
+use Rattle.std.proofs.Common.{◌≡◌, ℕ, ◌+◌, ◌<◌, ◌≤◌, false, List, [], ◌∷◌, ◌++◌, length, refl, sym, ap, ◌∙◌, subst, Option, Some, None, inl, inr, arith, Bor, ◌⊎◌}
 use Rattle.std.proofs.lemmas.List.{append_assoc}
 use Rattle.std.proofs.lemmas.List.Sums.{sum_by-append, sum_by-cons}
 use Rattle.std.specs.Option.{option_map_or}
 use Rattle.tdb_commands.specs.declared.play.Play.{Play}
 use Rattle.tdb_script.specs.declared.limits.TheConstants.{LONGEST_SCRIPT}
 use Rattle.tdb_script.specs.Lines.{lines_of, words_of, width}
-use Rattle.tdb_script.specs.Script.{Says, SaysNothing, LinesSay, with_said, Script, StopsIn, EndsWithin, BadAt}
+use Rattle.tdb_script.specs.Script.{is_skipped, Says, SaysNothing, LinesSay, with_said, Script, StopsIn, StarvesIn, EndsWithin, BadAt}
 use Rattle.tdb_script.proofs.ReadLemmas.{say_more}
 
 -- the lines that are left
@@ -98,6 +98,20 @@ read_bad text plays at end rest line more g cut none e within = record {
   stops = stops text plays at rest line more g cut;
   cause = inl (ends_within text line g.before at end g.place e within, none, g.place);
 }
+
+-- memory is wanting for a line that isn't skipped
+pub read_starved : (text : List ℕ) (plays : List Play) (at end : ℕ) (rest : Bor (List ℕ)) (line : List ℕ) (more : Option (Bor (List ℕ)))
+    → Reading text plays at (Some rest) → lines_of rest.now ≡ line ∷ left_lines more → is_skipped (words_of line) ≡ false
+    → end ≡ at + length line → (length text ≤ LONGEST_SCRIPT) ⊎ (end < LONGEST_SCRIPT) → (before : List (List ℕ)) × (last : List ℕ) × StarvesIn text before last
+read_starved text plays at end rest line more g cut counts e within = (
+  g.before,
+  line,
+  record {
+    stops = stops text plays at rest line more g cut;
+    within = ends_within text line g.before at end g.place e within;
+    counts = counts;
+  },
+)
 
 -- the longest script ends in a line
 pub read_long : (text : List ℕ) (plays : List Play) (at end : ℕ) (rest : Bor (List ℕ)) (line : List ℕ) (more : Option (Bor (List ℕ)))

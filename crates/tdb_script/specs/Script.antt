@@ -60,7 +60,7 @@ pub record Script (text : List ℕ) (plays : List Play) : Type 0 where
   pub fits : length text ≤ LONGEST_SCRIPT
   pub says : LinesSay (lines_of text) plays
 
--- The text stops being a script in this line: those before it, which end within the longest script, say plays.
+-- The reading of a text stops in this line: those before it, which end within the longest script, say plays.
 pub record StopsIn (text : List ℕ) (before : List (List ℕ)) (line : List ℕ) : Type 0 where
   pub after : List (List ℕ)
   pub plays : List Play
@@ -86,7 +86,14 @@ pub record BadAt (text : List ℕ) (place : ℕ) : Type 0 where
   pub cause : (EndsWithin text before line × SaysNothing (words_of line) × (place ≡ width before))
       ⊎ (Crosses text before line × (place ≡ LONGEST_SCRIPT))
 
--- what a refusal says of a text; memory may be wanting for any
+-- Memory was wanting for a line: it isn't skipped and ends within the longest script, and those before it say plays. So
+-- room is asked for line by line, and none for lines that are skipped.
+pub record StarvesIn (text : List ℕ) (before : List (List ℕ)) (line : List ℕ) : Type 0 where
+  pub stops : StopsIn text before line
+  pub within : EndsWithin text before line
+  pub counts : is_skipped (words_of line) ≡ false
+
+-- what a refusal says of a text
 abbrev pub IsRefused : List ℕ → ScriptRefusal → Type 0
 IsRefused text (ScriptRefusal.Malformed at) = BadAt text at
-IsRefused text ScriptRefusal.Memory = Unit {0}
+IsRefused text ScriptRefusal.Memory = (before : List (List ℕ)) × (line : List ℕ) × StarvesIn text before line

@@ -1,10 +1,10 @@
 // The play that a line says.
 
-ghost use Rattle.std.specs.Prelude.{◌≡◌, ◌==◌, [], ◌∷◌, slice_index, IfOk};
+ghost use Rattle.std.specs.Prelude.{◌≡◌, ◌==◌, [], ◌∷◌, false, slice_index, IfOk};
 ghost use Rattle.tdb_commands.specs.declared.play.Play.{Play as Means};
 ghost use Rattle.tdb_script.specs.Lines.{words_of};
-ghost use Rattle.tdb_script.specs.Script.{IsPlay, IsOpenerPlay, Says, SaysNothing};
-ghost use Rattle.tdb_script.specs.declared.unread.Unread.TheVariants.{NoReading};
+ghost use Rattle.tdb_script.specs.Script.{is_skipped, IsPlay, IsOpenerPlay, Says, SaysNothing};
+ghost use Rattle.tdb_script.specs.declared.unread.Unread.TheVariants.{NoReading, Memory};
 
 use crate::command::command_of;
 use crate::cut::first_word;
@@ -73,10 +73,11 @@ fn is_comment(name: &[u8]) -> bool
     !name.is_empty() && name[0] == b'#'
 }
 
-/// The play that a line says, or nothing where it is skipped.
+/// The play that a line says, or nothing where it is skipped; then it takes no memory.
 pub(crate) fn said_by(alloc: Global, line: &[u8]) -> Result<Option<Play>, Unread>
     ensures read { IfOk result (λ said. Says (words_of line.now) said) }
     ensures refused { result ≡ Err NoReading → SaysNothing (words_of line.now) }
+    ensures wanting { result ≡ Err Memory → is_skipped (words_of line.now) ≡ false }
 {
     let Some((name, rest)) = first_word(line) else {
         return Ok(None);

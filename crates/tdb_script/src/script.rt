@@ -1,10 +1,10 @@
 // Scripts.
 
-ghost use Rattle.std.specs.Prelude.{◌≡◌, ◌++◌, [], Option, IfOk, IfErr, OnOk};
+ghost use Rattle.std.specs.Prelude.{◌≡◌, ◌++◌, [], false, Option, IfOk, IfErr, OnOk};
 ghost use Rattle.tdb_commands.specs.declared.play.Play.{Play as Means};
 ghost use Rattle.tdb_script.specs.Lines.{words_of};
-ghost use Rattle.tdb_script.specs.Script.{Says, SaysNothing, with_said, Script, IsRefused};
-ghost use Rattle.tdb_script.specs.declared.unread.Unread.TheVariants.{NoReading};
+ghost use Rattle.tdb_script.specs.Script.{is_skipped, Says, SaysNothing, with_said, Script, IsRefused};
+ghost use Rattle.tdb_script.specs.declared.unread.Unread.TheVariants.{NoReading, Memory};
 
 use crate::cut::first_line;
 use crate::limits::LONGEST_SCRIPT;
@@ -28,6 +28,7 @@ pub enum ScriptRefusal {
 fn add_line(alloc: Global, plays: &mut Plays, line: &[u8]) -> Result<(), Unread>
     ensures read { OnOk result ((said : Option Means) × Says (words_of line.now) said × (plays.new ≡ plays.old ++ with_said said [])) }
     ensures refused { result ≡ Err NoReading → SaysNothing (words_of line.now) }
+    ensures wanting { result ≡ Err Memory → is_skipped (words_of line.now) ≡ false }
 {
     match said_by(alloc, line)? {
         None => {}
@@ -37,7 +38,8 @@ fn add_line(alloc: Global, plays: &mut Plays, line: &[u8]) -> Result<(), Unread>
 }
 
 /// The plays that a script says: its lines in order. A text of more than 16,777,216 bytes is malformed at that place,
-/// where no line before is. Cost: one pass over the text, and a copy of each key and value.
+/// where no line before is. Memory may be wanting for a line that isn't skipped, once those before it were read. Cost:
+/// one pass over the text, and a copy of each key and value.
 pub fn read_script(alloc: Global, text: &[u8]) -> Result<Plays, ScriptRefusal>
     ensures read { IfOk result (λ plays. Script text.now plays) }
     ensures refused { IfErr result (λ refusal. IsRefused text.now refusal) }

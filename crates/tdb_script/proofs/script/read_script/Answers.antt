@@ -1,5 +1,5 @@
 use Rattle.std.proofs.Common.{rules, arith, ◌≤◌, ◌+◌, length, sym, ap, ◌∙◌, subst, refl, Some, Err, inl, inr}
-use Rattle.tdb_script.proofs.LoopLemmas.{Reading, begun, read_more, read_all, read_bad, read_long, ends_in}
+use Rattle.tdb_script.proofs.LoopLemmas.{Reading, begun, read_more, read_all, read_bad, read_starved, read_long, ends_in}
 use Rattle.tdb_script.proofs.script.read_script.Goals as goal
 use Rattle.tdb_script.proofs.script.read_script.Goals.{else-is_long-via-then-is_long+else-end-ge-LONGEST_SCRIPT, else-is_long-via-else-is_long}
 
@@ -40,6 +40,20 @@ returns-in-Err-NoReading-clause-refused c =
       | else-is_long-via-else-is_long w ↦
           read_bad c.args.text.now c.loop-left.plays c.loop-left.at (c.loop-left.at + length c.first_line.result.0.now) c.in-Some.rest c.first_line.result.0.now
           c.first_line.result.1 g c.first_line.ensures.lines none refl (inl (omega arith))
+    ]
+
+-- memory is wanting for the line
+pub returns-in-Err-Memory-clause-refused : goal.returns-in-Err-Memory-clause-refused
+returns-in-Err-Memory-clause-refused c =
+    let g = subst (λ l. Reading c.args.text.now c.loop-left.plays c.loop-left.at l) c.in-Some.is c.loop-left.invariant in
+    let counts = c.add_line.ensures.wanting (c.in-Err-Memory.is ∙ ap Err c.in-Err-Memory.field-0-is) in
+    elim c.else-is_long.branch [
+      | else-is_long-via-then-is_long+else-end-ge-LONGEST_SCRIPT w ↦
+          read_starved c.args.text.now c.loop-left.plays c.loop-left.at (c.loop-left.at + length c.first_line.result.0.now) c.in-Some.rest c.first_line.result.0.now
+          c.first_line.result.1 g c.first_line.ensures.lines counts refl (inr (omega arith))
+      | else-is_long-via-else-is_long w ↦
+          read_starved c.args.text.now c.loop-left.plays c.loop-left.at (c.loop-left.at + length c.first_line.result.0.now) c.in-Some.rest c.first_line.result.0.now
+          c.first_line.result.1 g c.first_line.ensures.lines counts refl (inl (omega arith))
     ]
 
 -- the line says something
