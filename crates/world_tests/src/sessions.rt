@@ -193,7 +193,8 @@ enum Failing {
 /// What fails, what is typed, how the session ends, and what is printed before.
 type Fault = (Failing, &'static str, SessionFault, &'static str);
 
-static FAULTS: [(&'static str, Fault); 4] = [
+// A source in memory gives all that is left in one read. So the second read comes once every whole line was replied to.
+static FAULTS: [(&'static str, Fault); 6] = [
     (
         "the first read of the input",
         (
@@ -201,6 +202,24 @@ static FAULTS: [(&'static str, Fault); 4] = [
             "store a 1\nshow a\n",
             SessionFault::Input,
             "",
+        ),
+    ),
+    (
+        "a read behind the last line",
+        (
+            Failing::Input(1),
+            "store a 1\nshow a\n",
+            SessionFault::Input,
+            "ok\ndata(1) = \"1\"\n",
+        ),
+    ),
+    (
+        "a read in the midst of a line",
+        (
+            Failing::Input(1),
+            "store a 1\nshow",
+            SessionFault::Input,
+            "ok\n",
         ),
     ),
     (
