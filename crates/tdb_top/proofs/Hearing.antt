@@ -6,7 +6,7 @@ use Rattle.tdb_disk.specs.History.{History, seen}
 use Rattle.tdb_disk.specs.declared.files.TakeRefusal.{TakeRefusal}
 use Rattle.tdb_disk.specs.declared.files.TakeRefusal.TheVariants as Take
 use Rattle.tdb_check.specs.Report.{Counted}
-use Rattle.tdb_log.specs.Logs.{Logged, ToldAll, Refused, LastBecame}
+use Rattle.tdb_log.specs.Logs.{Logged, ToldAll, LastRefused}
 use Rattle.tdb_log.specs.declared.log.LogRefusal.{LogRefusal}
 use Rattle.tdb_log.specs.declared.notice.Notice.TheVariants.{Grew}
 use Rattle.tdb_cmdline.specs.Ask.{Ask}
@@ -45,7 +45,7 @@ growth_some from to lt = of (nat_lt from to) refl
     of true is = ap (λ b. if b then Grew from to ∷ [] else []) is
     of false is = absurd (omega (arith, ltb-false from to is, lt))
 
-pub grown_refused : (from to : ℕ) (old new : List Logged) (refusal : LogRefusal) → from < to → LastBecame (Refused refusal) old new → GrowthHeard {A = Unit {0}} from to old new (Err F.Log)
+pub grown_refused : (from to : ℕ) (old new : List Logged) (refusal : LogRefusal) → from < to → LastRefused refusal old new → GrowthHeard {A = Unit {0}} from to old new (Err F.Log)
 grown_refused from to old new refusal lt refused = (refusal, record { front = []; notice = Grew from to; rest = []; parts = growth_some from to lt; mid = old; told = refl; refused = refused })
 
 -- a command that is told no more

@@ -1,6 +1,6 @@
 -- What logs heard of lines, one part after the other.
 use Rattle.std.proofs.Common.{◌≡◌, List, [], ◌∷◌, ◌++◌, Some, Result, Ok, Err, IfErr, OnOk, refl, sym, ◌∙◌, ap, subst, append_assoc, arith, length, ◌-◌}
-use Rattle.tdb_log.specs.Logs.{Logged, ToldIfAny, Took, Refused, LastBecame, but_last}
+use Rattle.tdb_log.specs.Logs.{Logged, ToldIfAny, Took, LastBecame, LastRefused, but_last}
 use Rattle.tdb_log.specs.declared.log.LogRefusal.{LogRefusal}
 use Rattle.tdb_log.specs.declared.notice.Notice.{Notice}
 use Rattle.tdb_commands.specs.declared.line.Line.{Line}
@@ -44,7 +44,7 @@ pub heard_one : (old new : List Logged) (line : Line) → KeepsLogs (law_line li
 heard_one old new (LogsLeft count) keeps told = absurd keeps
 heard_one old new line keeps told = (new, told, refl)
 
-pub refused_one : (refusal : LogRefusal) (old new : List Logged) (line : Line) (notice : Notice) → notice_of line ≡ Some notice → LastBecame (Refused refusal) old new → HeardUpTo refusal old (line ∷ []) new
+pub refused_one : (refusal : LogRefusal) (old new : List Logged) (line : Line) (notice : Notice) → notice_of line ≡ Some notice → LastRefused refusal old new → HeardUpTo refusal old (line ∷ []) new
 refused_one refusal old new line notice tells refused = record {
   front = [];
   line = line;
@@ -59,7 +59,7 @@ refused_one refusal old new line notice tells refused = record {
 
 -- one line whose notice was told, or refused
 pub heard_notice : (old new : List Logged) (line : Line) (notice : Notice) → KeepsLogs (law_line line) → notice_of line ≡ Some notice
-    → (told : Result (Unit {0}) LogRefusal) → OnOk told (LastBecame (Took notice) old new) → IfErr told (λ refusal. LastBecame (Refused refusal) old new) → HeardBy old (line ∷ []) new (Ok told)
+    → (told : Result (Unit {0}) LogRefusal) → OnOk told (LastBecame (Took notice) old new) → IfErr told (λ refusal. LastRefused refusal old new) → HeardBy old (line ∷ []) new (Ok told)
 heard_notice old new line notice keeps tells (Ok v) taken refused = heard_one old new line keeps (subst (λ n. ToldIfAny n old new) (sym tells) taken)
 heard_notice old new line notice keeps tells (Err refusal) taken refused = refused_one refusal old new line notice tells refused
 

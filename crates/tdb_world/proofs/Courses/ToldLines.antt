@@ -1,7 +1,7 @@
 -- Lines whose notices are told one after the other.
 use Rattle.std.proofs.Common.{◌≡◌, ℕ, ◌+◌, ◌<◌, List, [], ◌∷◌, ◌++◌, Some, Ok, Err, length, take, drop, get_or, sym, ◌∙◌, ap, subst, append_assoc}
 use Rattle.std.proofs.lemmas.List.{take_more, take-append-drop, append_cancel_left, map-append}
-use Rattle.tdb_log.specs.Logs.{Logged, ToldIfAny, Refused, LastBecame}
+use Rattle.tdb_log.specs.Logs.{Logged, ToldIfAny, LastRefused}
 use Rattle.tdb_log.specs.declared.log.LogRefusal.{LogRefusal}
 use Rattle.tdb_log.specs.declared.notice.Notice.{Notice}
 use Rattle.tdb_commands.specs.declared.line.Line.{Line}
@@ -31,7 +31,7 @@ module _ (old mid new : List Logged) (front : List Line) (line : Line) (heard : 
   heard_more told keep =
       let parts = keeps_parts front (line ∷ []) keep in heard_joined old mid new front (line ∷ []) (heard parts.0) (heard_one mid new line parts.1.0 told)
 
-  pub refused_more : (rest : List Line) (refusal : LogRefusal) (notice : Notice) → notice_of line ≡ Some notice → LastBecame (Refused refusal) mid new → HeardNotices (front ++ line ∷ rest) old new (Err refusal)
+  pub refused_more : (rest : List Line) (refusal : LogRefusal) (notice : Notice) → notice_of line ≡ Some notice → LastRefused refusal mid new → HeardNotices (front ++ line ∷ rest) old new (Err refusal)
   refused_more rest refusal notice tells refused keep =
       heard_then_refused refusal old mid new front (line ∷ rest) (heard (keeps_parts front (line ∷ rest) keep).0)
       (refused_longer refusal mid new (line ∷ []) rest (refused_one refusal mid new line notice tells refused))

@@ -6,7 +6,7 @@ use Rattle.tdb_law.specs.World.{State}
 use Rattle.tdb_world.specs.Courses.Led.{Moment, IsStateAt}
 use Rattle.tdb_commands.specs.declared.play.Play.{Play}
 use Rattle.tdb_commands.specs.declared.play.Play.TheVariants.{SetLog}
-use Rattle.tdb_log.specs.Logs.{Logged, ToldIfAny, Refused, LastBecame, but_last}
+use Rattle.tdb_log.specs.Logs.{Logged, ToldIfAny, LastRefused, but_last}
 use Rattle.tdb_log.specs.declared.log.LogRefusal.{LogRefusal}
 use Rattle.tdb_log.specs.declared.notice.Notice.{Notice}
 use Rattle.tdb_log.specs.declared.notice.Notice.TheVariants as Note
@@ -40,7 +40,7 @@ pub record HeardUpTo (refusal : LogRefusal) (old : List Logged) (lines : List Li
   pub tells : notice_of line ≡ Some notice
   pub mid : List Logged
   pub heard : Heard old front mid
-  pub refused : LastBecame (Refused refusal) mid new
+  pub refused : LastRefused refusal mid new
 
 -- what logs heard of the lines that a play gave, by its answer: of all, where no log refused
 abbrev pub HeardBy : {V : Type 0} → List Logged → List Line → List Logged → Result (Result V LogRefusal) RunFault → Type 0
