@@ -23,7 +23,12 @@ use tdb_dump::{Pair, Reader};
 use tdb_space::Space;
 
 /// How many bytes of a text `restore_pairs` reads at most. A longer one is malformed at this place.
-pub const LONGEST_TEXT: u64 = 17179869184;
+pub const LONGEST_TEXT: u64 = 17_179_869_184;
+
+/// The limit above is the number 2 ^ 34.
+pub fn longest_text_law()
+    ensures { LONGEST_TEXT ≡ 17179869184 }
+{}
 
 /// How many bytes of text are read at once at most.
 const PIECE: usize = 65536;

@@ -1,6 +1,7 @@
 pub mod Rows
 pub mod Orders
 pub mod Asking
+pub mod Limits
 pub mod Lines
 pub mod Asked
 pub mod Replies

@@ -14,6 +14,6 @@ mod session;
 mod taking;
 
 pub use crate::fault::{SessionEnd, SessionFault};
-pub use crate::limits::{LONGEST_LINE, LONGEST_SESSION, MOST_MOVES};
+pub use crate::limits::{LONGEST_LINE, LONGEST_SESSION, MOST_MOVES, limits_law};
 pub use crate::order::{Order, read_order};
 pub use crate::session::run_session;
