@@ -1,5 +1,5 @@
 //! Tests of what reads and changes a file's image, over the public calls of `tdb_space`, `tdb_chain`, `tdb_check`,
-//! `tdb_free`, `tdb_undo` and `tdb_backup`: each module has one test, over tables whose rows have names.
+//! `tdb_free`, `tdb_undo`, `tdb_backup` and `tdb_rescue`: each module has one test, over tables whose rows have names.
 #![tactic(auto)]
 
 #[cfg(test)]
@@ -10,6 +10,8 @@ mod chain;
 mod check;
 #[cfg(test)]
 mod free;
+#[cfg(test)]
+mod rescue;
 #[cfg(test)]
 mod rows;
 #[cfg(test)]

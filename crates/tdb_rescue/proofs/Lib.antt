@@ -1,0 +1,5 @@
+mod Passing
+mod Places
+mod Progress
+mod Stood
+mod Bytes

@@ -1,0 +1,4 @@
+pub mod Window
+pub mod Rescued
+pub mod Text
+pub mod Laws
