@@ -1,7 +1,7 @@
 //! Tests of the check, its parts and its report, over the public calls of `tdb_check`.
 
 mod chains;
-mod files;
+pub(crate) mod files;
 mod long_chains;
 mod parts;
 mod reports;

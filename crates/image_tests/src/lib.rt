@@ -1,5 +1,6 @@
 //! Tests of what reads and changes a file's image, over the public calls of `tdb_space`, `tdb_chain`, `tdb_check`,
-//! `tdb_free`, `tdb_undo`, `tdb_backup` and `tdb_rescue`: each module has one test, over tables whose rows have names.
+//! `tdb_free`, `tdb_undo`, `tdb_backup`, `tdb_rescue` and `tdb_rewrite`: each module has one test, over tables whose
+//! rows have names.
 #![tactic(auto)]
 
 #[cfg(test)]
@@ -12,6 +13,8 @@ mod check;
 mod free;
 #[cfg(test)]
 mod rescue;
+#[cfg(test)]
+mod rewrite;
 #[cfg(test)]
 mod rows;
 #[cfg(test)]

@@ -1,0 +1,5 @@
+pub mod Walking
+pub mod Showing
+pub mod Adding
+pub mod Bounds
+pub mod Greatest

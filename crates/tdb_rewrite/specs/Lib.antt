@@ -1,0 +1,5 @@
+pub mod Walk
+pub mod Lines
+pub mod Refusal
+pub mod Sums
+pub mod Summary
