@@ -3,3 +3,5 @@ pub mod Showing
 pub mod Adding
 pub mod Bounds
 pub mod Greatest
+pub mod Streamed
+pub mod Written

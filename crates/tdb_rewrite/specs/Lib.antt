@@ -3,3 +3,4 @@ pub mod Lines
 pub mod Refusal
 pub mod Sums
 pub mod Summary
+pub mod Text

@@ -7,10 +7,13 @@ mod refusal;
 mod spot;
 mod summing;
 mod sums;
+mod text;
 mod walk;
+mod writing;
 
 pub use crate::lines::chain_lines;
 pub use crate::numbers::Summary;
-pub use crate::refusal::{LinesRefusal, SummaryRefusal};
+pub use crate::refusal::{LinesRefusal, ShowRefusal, SummaryRefusal};
 pub use crate::spot::{Shown, Spot};
-pub use crate::summing::summary;
+pub use crate::summing::{sum_up, summary};
+pub use crate::writing::{write_chains, write_free_list, write_summary};

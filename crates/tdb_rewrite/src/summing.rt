@@ -7,7 +7,7 @@ ghost use Rattle.tdb_space.specs.Extents.{HandPair};
 ghost use Rattle.tdb_space.specs.Pairs.{order_of};
 ghost use Rattle.tdb_space.specs.Accepted.{Accept, AcceptWith};
 ghost use Rattle.tdb_space.specs.FirstFault.{IsFirstFault};
-ghost use Rattle.tdb_check.specs.Report.{IsFormOf};
+ghost use Rattle.tdb_check.specs.Report.{IsFormOf, Counted};
 ghost use Rattle.tdb_rewrite.specs.Refusal.{Names};
 ghost use Rattle.tdb_rewrite.specs.Sums.{Sums};
 ghost use Rattle.tdb_rewrite.specs.Summary.{SumsUp, greatest_free};
@@ -18,7 +18,7 @@ use crate::refusal::SummaryRefusal;
 use crate::sums::PairBytes;
 use crate::walk::ListWalk;
 use std::alloc::Global;
-use tdb_check::check;
+use tdb_check::{Report, check};
 use tdb_space::{FREE_HEAD, Io, Space};
 
 /// How many bytes keys and values of a file of `len` bytes have.
@@ -54,11 +54,33 @@ fn largest_free<S: Space>(s: &mut S, len: u64) -> Result<u64, Io>
     Ok(largest)
 }
 
+/// The summary of an accepted file in which a check counted this.
+///
+/// It reads 24 bytes of each record of the chains and of the free list, and holds no more than these few numbers. It
+/// changes nothing. `Io` where the disk failed.
+pub fn sum_up<S: Space>(s: &mut S, report: &Report) -> Result<Summary, Io>
+    ensures summed_up { IfOk result (λ sum. IsTrue S.tells → IsFormOf (S.form s.old) (S.image s.old) → Accept (S.image s.old)
+        → Counted (S.image s.old) report.now → SumsUp (S.image s.old) sum) }
+    ensures looked { Looked S.Space s.old s.new }
+    ensures cause { HasCause (S.faults s.old) (S.faults s.new) result }
+    ensures bytes_read { S.bytes_read s.old ≤ S.bytes_read s.new }
+{
+    let len = s.len()?;
+    let sums = pair_bytes(s, len)?;
+    let largest_free = largest_free(s, len)?;
+    Ok(Summary {
+        report: *report,
+        key_bytes: sums.keys,
+        data_bytes: sums.values,
+        largest_free,
+    })
+}
+
 /// The summary of an accepted file. Where it isn't accepted, its first fault.
 ///
-/// It checks the file, and then reads 24 bytes of each record of the chains and of the free list. But for what the
-/// check keeps it holds no more than these few numbers: the lines of the records are those of `chain_lines`. It changes
-/// nothing. `Io` where the disk failed, and `Memory` where that is wanting for the check.
+/// It checks the file, and then sums it up. But for what the check keeps it holds no more than a few numbers: the lines
+/// of the records are those of `chain_lines`. It changes nothing. `Io` where the disk failed, and `Memory` where that is
+/// wanting for the check.
 pub fn summary<S: Space>(alloc: Global, s: &mut S) -> Result<Summary, SummaryRefusal>
     ensures summed_up { IfOk result (λ sum. IsTrue S.tells → IsFormOf (S.form s.old) (S.image s.old) → Accept (S.image s.old) × SumsUp (S.image s.old) sum) }
     ensures first_fault { IfErr result (λ e. IsTrue S.tells → IsFormOf (S.form s.old) (S.image s.old) → Names e (IsFirstFault (S.image s.old))) }
@@ -66,13 +88,5 @@ pub fn summary<S: Space>(alloc: Global, s: &mut S) -> Result<Summary, SummaryRef
     ensures cause { HasCauseOf IoRefusal (S.faults s.old) (S.faults s.new) result }
 {
     let report = check(alloc, s)?;
-    let len = s.len()?;
-    let sums = pair_bytes(s, len)?;
-    let largest_free = largest_free(s, len)?;
-    Ok(Summary {
-        report,
-        key_bytes: sums.keys,
-        data_bytes: sums.values,
-        largest_free,
-    })
+    Ok(sum_up(s, &report)?)
 }
