@@ -37,3 +37,4 @@ pub mod Deaths
 pub mod Mortal
 pub mod Courses
 pub mod Loaded
+pub mod OverFiles

@@ -9,3 +9,6 @@ pub mod Prepared
 pub mod Syncs
 pub mod Courses
 pub mod Loaded
+pub mod Histories
+pub mod OverFile
+pub mod OverFiles

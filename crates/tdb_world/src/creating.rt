@@ -64,6 +64,7 @@ pub fn create<D: Disk>(
     ensures accepted { IfOk result (λ w. IsTrue D.tells → AcceptWith (form_at w) (seen (D.history disk.new)) []) }
     ensures nobody { IfOk result (λ w. w.openers.openers ≡ []) }
     ensures aside { IfOk result (λ w. w.aside ≡ None) }
+    ensures fresh { IfOk result (λ w. w.stale ≡ false) }
     ensures fits { IfOk result (λ w. WorldFits w (seen (D.history disk.new)) (D.size disk.new)) }
     ensures state { IfOk result (λ w. IsTrue D.tells → (state : State) × IsJustLoaded w (D.history disk.new) state) }
     ensures too_long { IfErr result (λ e. (len : ℕ) → e ≡ TooLong len → (len ≡ new_length form) × (options.now.limit < len) × (disk.new ≡ disk.old)) }

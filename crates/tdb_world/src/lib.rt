@@ -8,6 +8,7 @@ mod beginning;
 mod course;
 mod creating;
 mod dying;
+mod file_world;
 mod laws;
 mod loading;
 mod others;
@@ -20,6 +21,7 @@ pub use crate::course::laws::{prepared_commits_end, report_is_lawful, steps_tell
 pub use crate::course::playing::{play, run};
 pub use crate::course::unreported::{give_unreported, turn_unreported};
 pub use crate::creating::{CreateRefusal, create};
+pub use crate::file_world::FileWorld;
 pub use crate::laws::{
     commits_sync_seldom, prepared_commits_go_on, states_are_read, transactions_are_safe,
 };

@@ -1,6 +1,6 @@
 // A world over the file on a disk: the file is opened as its openers want it, and a world is made over what it holds.
 
-ghost use Rattle.std.specs.Prelude.{◌≡◌, ◌≤◌, [], None, length, IsTrue, IfOk};
+ghost use Rattle.std.specs.Prelude.{◌≡◌, ◌≤◌, [], None, length, false, IsTrue, IfOk};
 ghost use Rattle.tdb_disk.specs.Count.{HasCauseOf};
 ghost use Rattle.tdb_disk.specs.History.{seen};
 ghost use Rattle.tdb_space.specs.Accepted.{AcceptWith};
@@ -48,6 +48,7 @@ pub fn load<D: Disk, L: Logs>(
     ensures accepted { IfOk result (λ x. IsTrue D.tells → AcceptWith (form_at x.0) (seen (D.history disk.new)) []) }
     ensures nobody { IfOk result (λ x. x.0.openers.openers ≡ []) }
     ensures aside { IfOk result (λ x. x.0.aside ≡ None) }
+    ensures fresh { IfOk result (λ x. x.0.stale ≡ false) }
     ensures fits { IfOk result (λ x. WorldFits x.0 (seen (D.history disk.new)) (D.size disk.new)) }
     ensures state { IfOk result (λ x. IsTrue D.tells → (state : State) × IsJustLoaded x.0 (D.history disk.new) state) }
 {

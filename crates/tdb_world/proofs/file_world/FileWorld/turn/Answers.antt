@@ -1,0 +1,23 @@
+-- A turn of one of the openers over the world's disk.
+use Rattle.std.proofs.Common.{sym, subst}
+use Rattle.tdb_world.specs.Steps.{HasCommand}
+use Rattle.tdb_world.specs.OverFile.{OverFile}
+use Rattle.tdb_world.proofs.OverFiles.{took_turn, counts_faults}
+use Rattle.tdb_world.proofs.file_world.FileWorld.turn.Goals as goal
+
+pub turn-turned-requires-clause-busy : goal.turn-turned-requires-clause-busy
+turn-turned-requires-clause-busy g c = subst (λ (w : OverFile). HasCommand w.world c.args.who) (sym c.self.view_is) c.requires.busy
+
+pub returns-clause-turned : goal.returns-clause-turned
+returns-clause-turned g c =
+    let e = c.turn-turned.ensures in
+    rw (← c.self.view_is) (took_turn _ _ _ _ _ e.turned e.prepared e.safe e.syncs e.busy e.fresh e.longer e.header e.options)
+
+pub returns-clause-stops : goal.returns-clause-stops
+returns-clause-stops g c = rw (← c.self.view_is) (λ told state S. c.turn-turned.ensures.stops told state S.has S.safe S.calm)
+
+pub returns-clause-no_sync : goal.returns-clause-no_sync
+returns-clause-no_sync g c = rw (← c.self.view_is) c.turn-turned.ensures.no_sync
+
+pub returns-clause-faults : goal.returns-clause-faults
+returns-clause-faults g c = let e = c.turn-turned.ensures in rw (← c.self.view_is) (counts_faults _ _ _ _ e.cause e.done e.rises)

@@ -1,0 +1,70 @@
+//! The world together with the disk that has its file.
+ghost use Rattle.std.specs.Prelude.{◌≡◌, IsTrue, length, false};
+ghost use Rattle.tdb_disk.specs.History.{seen};
+ghost use Rattle.tdb_world.specs.OverFile.{FitsFile, IsDiskOf};
+
+mod openers;
+mod opening;
+mod plays;
+mod turns;
+
+use crate::world::World;
+use std::marker::Model;
+use tdb_disk::Disk;
+
+/// All openers of one tdb file, and the disk that has the file. Contracts see the openers, what the disk tells, and
+/// whether the world is spent: the disk failed in a turn or an undo, and no other may be taken. It can't be dropped:
+/// `close` gives the disk back.
+pub struct FileWorld<D: Disk> {
+    pub(crate) world: World,
+    pub(crate) disk: D,
+    pub(crate) spent: bool,
+}
+
+impl<D: Disk> Model for FileWorld<D> {
+    ghost use Rattle.std.specs.Prelude.{◌≡◌, false};
+    ghost use Rattle.tdb_disk.specs.History.{seen};
+    ghost use Rattle.tdb_world.specs.contracts.world.World as openers;
+    ghost use Rattle.tdb_world.specs.Whole.{WorldFits};
+    ghost use Rattle.tdb_world.specs.OverFile.{over_file_code, OverFile};
+
+    ghost Value = { OverFile };
+
+    ghost coded = { over_file_code openers.the_row.coded };
+
+    ghost view = { λ w. record { world = w.world; history = D.history w.disk; size = D.size w.disk; faults = D.faults w.disk; syncs = D.syncs w.disk; bytes_read = D.bytes_read w.disk; spent = w.spent } };
+
+    ghost invariant = { λ w. w.spent ≡ false → WorldFits w.world (seen (D.history w.disk)) (D.size w.disk) };
+}
+
+impl<D: Disk> FileWorld<D> {
+    /// Whether the disk failed in a turn or an undo.
+    pub fn is_spent(&self) -> bool
+        ensures { result ≡ self.now.spent }
+    {
+        self.spent
+    }
+
+    /// What holds between any two calls, for a caller's proof: unless it is spent the openers fit the file; and a file
+    /// that tells its bytes has as many as its length says. The function does nothing.
+    pub fn stands(&self)
+        ensures fits { self.now.spent ≡ false → FitsFile self.now }
+        ensures sized { IsTrue D.tells → length (seen self.now.history) ≡ self.now.size }
+    {
+        let _ = &self.disk;
+    }
+
+    /// Gives the openers up, with commands that aren't done and a transaction that isn't committed, and gives the disk
+    /// back, on which no call is made. A gate that stands open is undone by whoever opens the file next.
+    pub fn close(self) -> D
+        ensures { IsDiskOf D.Disk result self }
+    {
+        let FileWorld {
+            world,
+            disk,
+            spent: _,
+        } = self;
+        world.end();
+        disk
+    }
+}
