@@ -16,8 +16,8 @@ use Rattle.tdb_openers.specs.declared.fault.RunFault.{RunFault}
 use Rattle.tdb_openers.specs.declared.standings.OpenerStanding.{OpenerStanding}
 use Rattle.tdb_openers.specs.declared.standings.OpenerStanding.TheVariants.{Absent, Idle, Busy}
 use Rattle.tdb_world.specs.declared.undoing.Undone.{Undone}
-use Rattle.tdb_world.specs.declared.world.JoinRefusal.{JoinRefusal}
-use Rattle.tdb_world.specs.declared.world.JoinRefusal.TheVariants as Refusal
+use Rattle.tdb_world.specs.declared.all_openers.JoinRefusal.{JoinRefusal}
+use Rattle.tdb_world.specs.declared.all_openers.JoinRefusal.TheVariants as Refusal
 use Rattle.tdb_world.specs.Whole.{form_at, Whole}
 use Rattle.tdb_world.specs.States.{IsStateOf}
 use Rattle.tdb_world.specs.Steps.{GiftLeads, HasCommand, HasNoCommand, HasRoom, JoinLeads, TurnLeads, UndoLeads}

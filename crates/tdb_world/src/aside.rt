@@ -24,7 +24,7 @@ ghost use Rattle.tdb_world.specs.declared.aside.Claim.TheVariants as Claim;
 ghost use Rattle.tdb_txn_owner.specs.Syncs.{HolderSyncs};
 ghost use Rattle.tdb_world.specs.Syncs.{SyncsByStage};
 
-use crate::world::World;
+use crate::all_openers::AllOpeners;
 use std::mem;
 use tdb_disk::Disk;
 use tdb_locks::{Kind, LockRefusal, Turn};
@@ -68,7 +68,7 @@ fn claim_records(openers: &mut Openers, who: u32, wants: Wants) -> Claim
     }
 }
 
-impl World {
+impl AllOpeners {
     /// Keeps the sequence number of the file, where the next turn of the one aside shuts the others out.
     fn keep_number<D: Disk>(&mut self, d: &mut D, wants: Wants) -> Result<(), Io>
         ensures number { OnOk result (IsTrue D.tells → wants ≡ Wants.Records Write → 52 ≤ D.size d.old → self.new.number ≡ number_of (form_in self.old.openers.header) (seen (D.history d.old))) }

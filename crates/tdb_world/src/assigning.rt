@@ -17,7 +17,7 @@ ghost use Rattle.tdb_space.specs.Form.{Form};
 ghost use Rattle.tdb_words.specs.declared.header.Header.{Header};
 ghost use Rattle.tdb_openers.specs.declared.standings.OpenerStanding.TheVariants as OpenerStanding;
 
-use crate::world::World;
+use crate::all_openers::AllOpeners;
 use std::alloc::AllocError;
 use tdb_commands::Command;
 use tdb_openers::OpenerStanding;
@@ -44,7 +44,7 @@ fn give_holder(holder: &mut TxnOwner, command: Command) -> Result<(), AllocError
     Ok(())
 }
 
-impl World {
+impl AllOpeners {
     /// The opener with this number, where it is aside.
     pub(crate) fn holder(&self, who: u32) -> Option<&TxnOwner>
         ensures some { IfSome result (λ h. (self.now.aside ≡ Some h.now) × (who ≡ h.now.owner)) }
@@ -75,7 +75,7 @@ impl World {
     }
 
     /// How the opener with this number, from 1 on, stands.
-    pub fn standing(&self, who: u32) -> OpenerStanding
+    pub(crate) fn standing(&self, who: u32) -> OpenerStanding
         requires named { 1 ≤ who }
         requires fits { (img : List ℕ) × (size : ℕ) × WorldFits self.now img size }
         ensures absent { result ≡ OpenerStanding.Absent → (h : History) (state : State) → IsStateOf self.now h state → (state.own (law_opener who)).live ≡ false }
@@ -97,7 +97,7 @@ impl World {
     }
 
     /// The command of an opener as a report tells it, at the cost of its key's and its value's length.
-    pub fn told(&self, who: u32) -> Result<Command, AllocError>
+    pub(crate) fn told(&self, who: u32) -> Result<Command, AllocError>
         requires fits { (img : List ℕ) × (size : ℕ) × WorldFits self.now img size }
         requires busy { HasCommand self.now who }
         ensures { IfOk result (λ command. (h : History) (state : State) (t : Task) → IsStateOf self.now h state → state.task (law_opener who) ≡ Some t → law_command command ≡ t.command) }
@@ -168,7 +168,12 @@ impl World {
     /// `Memory` where a transaction would begin within more than 2^32 - 2 others: then nothing has changed.
     ///
     /// Cost: a hash of the key, and a look-up among the chains that the opener holds.
-    pub fn assign(&mut self, who: u32, command: Command, told: Command) -> Result<(), AllocError>
+    pub(crate) fn assign(
+        &mut self,
+        who: u32,
+        command: Command,
+        told: Command,
+    ) -> Result<(), AllocError>
         requires named { 1 ≤ who }
         requires same { told ≡ command }
         requires free { HasNoCommand self.old who }

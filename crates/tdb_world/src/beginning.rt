@@ -14,7 +14,7 @@ ghost use Rattle.tdb_txn_turns.specs.declared.starting.Starting.TheVariants as S
 ghost use Rattle.tdb_txn_owner.specs.declared.stage.Stage.TheVariants as Stage;
 ghost use Rattle.tdb_txn_owner.specs.Syncs.{HolderSyncs};
 
-use crate::world::World;
+use crate::all_openers::AllOpeners;
 use tdb_disk::Disk;
 use tdb_locks::{Reply, Turn};
 use tdb_space::Io;
@@ -23,7 +23,7 @@ use tdb_txn_owner::TxnOwner;
 /// The lock byte of transactions.
 const TXN_BYTE: u64 = 8;
 
-impl World {
+impl AllOpeners {
     /// Takes from an opener its Start, which has had no turn.
     fn drop_start(&mut self, who: u32)
         requires begun { is_starting self.old.starts (law_opener who) ≡ true }

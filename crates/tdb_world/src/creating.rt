@@ -11,7 +11,7 @@ ghost use Rattle.tdb_world.specs.declared.creating.CreateRefusal.TheVariants.{De
 ghost use Rattle.tdb_world.specs.Whole.{form_at, WorldFits};
 ghost use Rattle.tdb_world.specs.Loaded.{IsJustLoaded};
 
-use crate::world::World;
+use crate::all_openers::AllOpeners;
 use std::alloc::Global;
 use tdb_commands::Options;
 use tdb_disk::{Disk, DiskFault};
@@ -45,12 +45,12 @@ impl From<DiskFault> for CreateRefusal {
 /// call of the disk failed: the file is empty then, or has its full length. No memory is taken.
 ///
 /// Cost: one call each to grow, to write the header and to sync.
-pub fn create<D: Disk>(
+pub(crate) fn create<D: Disk>(
     alloc: Global,
     disk: &mut D,
     form: NewForm,
     options: &Options,
-) -> Result<World, CreateRefusal>
+) -> Result<AllOpeners, CreateRefusal>
     requires empty { D.size disk.old ≡ 0 }
     requires some { 0 < form.size }
     requires writes { options.now.read_only ≡ false }
@@ -76,5 +76,5 @@ pub fn create<D: Disk>(
         return Err(CreateRefusal::TooLong { len });
     }
     make(disk, form)?;
-    Ok(World::new(alloc, &form.header(), options))
+    Ok(AllOpeners::new(alloc, &form.header(), options))
 }

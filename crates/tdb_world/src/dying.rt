@@ -12,12 +12,12 @@ ghost use Rattle.tdb_world.specs.Whole.{WorldFits};
 ghost use Rattle.tdb_world.specs.States.{IsStateOf};
 ghost use Rattle.tdb_world.specs.Steps.{DeathLeads};
 
-use crate::world::World;
+use crate::all_openers::AllOpeners;
 
-impl World {
+impl AllOpeners {
     /// Whether the opener with this number, from 1 on, may die: it is live, and has no command, or a Commit or a
     /// Prepare.
-    pub fn may_die(&self, who: u32) -> bool
+    pub(crate) fn may_die(&self, who: u32) -> bool
         requires named { 1 ≤ who }
         requires fits { (img : List ℕ) × (size : ℕ) × WorldFits self.now img size }
         ensures can { IsTrue result → CanDie self.now who }
@@ -53,7 +53,7 @@ impl World {
     /// it, the world is stale from then on. It takes no memory, and makes no call on the file.
     ///
     /// Cost: one pass over the lock table.
-    pub fn die(&mut self, who: u32)
+    pub(crate) fn die(&mut self, who: u32)
         requires named { 1 ≤ who }
         requires can { CanDie self.old who }
         requires fits { (img : List ℕ) × (size : ℕ) × WorldFits self.old img size }

@@ -12,7 +12,7 @@ ghost use Rattle.tdb_open.specs.Loading.{OpenedToTurn, TurnOpeningHeard, opened_
 ghost use Rattle.tdb_world.specs.Whole.{form_at, WorldFits};
 ghost use Rattle.tdb_world.specs.Loaded.{IsJustLoaded};
 
-use crate::world::World;
+use crate::all_openers::AllOpeners;
 use std::alloc::Global;
 use tdb_commands::Options;
 use tdb_disk::Disk;
@@ -28,12 +28,12 @@ use tdb_open::{Halt, Opened, open_to_turn};
 /// failed; `Memory` where that was wanting for the check or for a log.
 ///
 /// Cost: one pass over the file. The memory that it takes is that of the check and of the log; the world takes none.
-pub fn load<D: Disk, L: Logs>(
+pub(crate) fn load<D: Disk, L: Logs>(
     alloc: Global,
     disk: &mut D,
     options: &Options,
     logs: &mut L,
-) -> Result<(World, Opened), Halt>
+) -> Result<(AllOpeners, Opened), Halt>
     requires limit { options.now.limit ≤ 4294963200 }
     ensures opened { IsTrue D.tells → OpenedToTurn options.now (D.history disk.old) (D.history disk.new) (opened_of result) }
     ensures checked { IfOk result (λ x. IsTrue D.tells → IsCheckedOn (seen (D.history disk.new)) x.1) }
@@ -53,6 +53,6 @@ pub fn load<D: Disk, L: Logs>(
     ensures state { IfOk result (λ x. IsTrue D.tells → (state : State) × IsJustLoaded x.0 (D.history disk.new) state) }
 {
     let opened = open_to_turn(alloc, options, disk, logs)?;
-    let world = World::new(alloc, &opened.header, options);
+    let world = AllOpeners::new(alloc, &opened.header, options);
     Ok((world, opened))
 }

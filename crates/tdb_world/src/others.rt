@@ -21,7 +21,7 @@ ghost use Rattle.tdb_world.specs.States.{IsStateOf};
 ghost use Rattle.tdb_world.specs.Steps.{HasCommand, IsAmong, TurnLeads};
 ghost use Rattle.tdb_world.specs.Stops.{IsChanging, IsSafe, TurnMayLeave};
 
-use crate::world::World;
+use crate::all_openers::AllOpeners;
 use tdb_disk::Disk;
 use tdb_locks::{Kind, Reply, Turn};
 use tdb_space::{Direct, Io};
@@ -36,7 +36,7 @@ struct Shutter {
     bars: bool,
 }
 
-impl World {
+impl AllOpeners {
     /// Who shuts all others out, if somebody does. Cost: a binary search in its lock table.
     fn shutter(&self) -> Option<Shutter>
         ensures some { IfSome result (λ z. IsShutBy self.now z.owner z.bars) }

@@ -12,12 +12,12 @@ ghost use Rattle.tdb_world.specs.Stops.{IsChanging, IsSafe, TurnMayLeave};
 ghost use Rattle.tdb_world.specs.Prepared.{GoesAsPrepared};
 ghost use Rattle.tdb_world.specs.Syncs.{OnlyLooks, SyncsByStage};
 
-use crate::world::World;
+use crate::all_openers::AllOpeners;
 use tdb_disk::Disk;
 use tdb_locks::Turn;
 use tdb_space::Io;
 
-impl World {
+impl AllOpeners {
     /// Takes one turn of the opener's command. After `Io` no other turn may be taken in the world: the disk failed, or
     /// a check found a fault in the file, which no turn leaves. A Commit of a prepared transaction is never blocked,
     /// and is done after at most four turns of its opener.
@@ -25,7 +25,7 @@ impl World {
     /// Cost: that of the command's turn, and a search in the lock table; nothing is passed over that doesn't belong to
     /// it. A turn of a Start, a Commit or a Prepare, or one that ends a transaction, syncs the disk as often as its
     /// stage says, which makes nine times at most for a Commit; one that only looks at the file never does.
-    pub fn turn<D: Disk>(&mut self, d: &mut D, who: u32) -> Result<Turn, Io>
+    pub(crate) fn turn<D: Disk>(&mut self, d: &mut D, who: u32) -> Result<Turn, Io>
         requires named { 1 ≤ who }
         requires busy { HasCommand self.old who }
         requires fresh { self.old.stale ≡ false }

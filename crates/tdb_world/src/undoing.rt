@@ -15,7 +15,7 @@ ghost use Rattle.tdb_world.specs.States.{IsStateOf};
 ghost use Rattle.tdb_world.specs.Steps.{UndoLeads};
 ghost use Rattle.tdb_world.specs.Stops.{IsSafe, OpensToState};
 
-use crate::world::World;
+use crate::all_openers::AllOpeners;
 use tdb_disk::Disk;
 use tdb_space::Io;
 use tdb_undo::{UndoRefusal, recover};
@@ -90,9 +90,9 @@ fn undo<D: Disk>(d: &mut D, header: &Header) -> Result<Undone, Io>
     Ok(Undone { bytes, to })
 }
 
-impl World {
+impl AllOpeners {
     /// Whether a gate stands open that an opener left by dying.
-    pub fn is_stale(&self) -> bool
+    pub(crate) fn is_stale(&self) -> bool
         ensures { result ≡ self.now.stale }
     {
         self.stale
@@ -104,7 +104,7 @@ impl World {
     /// Where the file doesn't tell its bytes, an undo area that is none puts back nothing.
     ///
     /// Cost: a read and a write of each entry, and at most 7 syncs. It takes no memory.
-    pub fn undo_stale<D: Disk>(&mut self, d: &mut D) -> Result<Undone, Io>
+    pub(crate) fn undo_stale<D: Disk>(&mut self, d: &mut D) -> Result<Undone, Io>
         requires stale { self.old.stale ≡ true }
         requires fits { WorldFits self.old (seen (D.history d.old)) (D.size d.old) }
         ensures fits { OnOk result (WorldFits self.new (seen (D.history d.new)) (D.size d.new)) }

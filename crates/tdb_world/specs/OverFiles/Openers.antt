@@ -6,8 +6,8 @@ use Rattle.tdb_commands.specs.InLaw.{law_opener, law_command}
 use Rattle.tdb_commands.specs.declared.command.Command.{Command}
 use Rattle.tdb_openers.specs.declared.standings.OpenerStanding.{OpenerStanding}
 use Rattle.tdb_openers.specs.declared.standings.OpenerStanding.TheVariants.{Absent, Idle, Busy}
-use Rattle.tdb_world.specs.declared.world.JoinRefusal.{JoinRefusal}
-use Rattle.tdb_world.specs.declared.world.JoinRefusal.TheVariants.{Blocked, Many, Memory}
+use Rattle.tdb_world.specs.declared.all_openers.JoinRefusal.{JoinRefusal}
+use Rattle.tdb_world.specs.declared.all_openers.JoinRefusal.TheVariants.{Blocked, Many, Memory}
 use Rattle.tdb_world.specs.States.{IsStateOf}
 use Rattle.tdb_world.specs.Steps.{DeathLeads, GiftLeads, HasCommand, HasNoCommand, HasRoom, JoinLeads}
 use Rattle.tdb_world.specs.OverFile.{OverFile, OnlyInMemory}

@@ -12,15 +12,16 @@ ghost use Rattle.tdb_world.specs.Courses.Stops.{StopsLed};
 ghost use Rattle.tdb_world.specs.Courses.Turns.{GoesOrClears};
 ghost use Rattle.tdb_world.specs.Courses.Told.{PlayLed};
 
+use crate::OpenerStanding;
+use crate::all_openers::AllOpeners;
 use crate::course::turning::told_turn;
-use crate::{OpenerStanding, World};
 use tdb_commands::{Line, TurnReport};
 use tdb_disk::Disk;
 use tdb_openers::{MOST_TURNS, RunFault, tell};
 
 /// Takes turns of an opener's command up to the first that isn't a step, and tells them.
 pub(crate) fn go_on<D: Disk>(
-    world: &mut World,
+    world: &mut AllOpeners,
     d: &mut D,
     who: u32,
     report: &mut TurnReport,
@@ -46,7 +47,7 @@ pub(crate) fn go_on<D: Disk>(
 
 /// An opener takes a turn of its command, or the report says why not.
 pub(crate) fn play_turn<D: Disk>(
-    world: &mut World,
+    world: &mut AllOpeners,
     d: &mut D,
     who: u32,
     report: &mut TurnReport,
@@ -70,7 +71,7 @@ pub(crate) fn play_turn<D: Disk>(
 
 /// An opener takes turns of its command up to the first that isn't a step, or the report says why not.
 pub(crate) fn play_go<D: Disk>(
-    world: &mut World,
+    world: &mut AllOpeners,
     d: &mut D,
     who: u32,
     report: &mut TurnReport,

@@ -5,12 +5,17 @@ ghost use Rattle.tdb_commands.specs.InLaw.{law_opener};
 ghost use Rattle.tdb_world.specs.Whole.{WorldFits};
 ghost use Rattle.tdb_world.specs.Courses.Told.{PlayLedInAny};
 
-use crate::{OpenerStanding, World};
+use crate::OpenerStanding;
+use crate::all_openers::AllOpeners;
 use tdb_commands::{Line, TurnReport};
 use tdb_openers::{RunFault, put_line, tell};
 
 /// An opener dies, or the report says why it doesn't.
-pub(crate) fn play_die(world: &mut World, who: u32, report: &mut TurnReport) -> Result<(), RunFault>
+pub(crate) fn play_die(
+    world: &mut AllOpeners,
+    who: u32,
+    report: &mut TurnReport,
+) -> Result<(), RunFault>
     requires named { 1 ≤ who }
     requires fits { (img : List ℕ) × (size : ℕ) × WorldFits world.old img size }
     ensures led { PlayLedInAny world.old report.old.lines world.new report.new.lines result (LawPlay.Die (law_opener who)) }

@@ -5,12 +5,13 @@ ghost use Rattle.tdb_world.specs.Whole.{WorldFits};
 ghost use Rattle.tdb_world.specs.Steps.{HasCommand};
 ghost use Rattle.tdb_world.specs.Courses.Unfinished.{IsEnd};
 
-use crate::{OpenerStanding, World};
+use crate::OpenerStanding;
+use crate::all_openers::AllOpeners;
 use std::alloc::AllocError;
 use tdb_commands::{Line, TurnReport};
 
 /// Whether the opener with this number has a command that isn't done.
-fn is_busy(world: &World, who: u32) -> bool
+fn is_busy(world: &AllOpeners, who: u32) -> bool
     requires named { 1 ≤ who }
     requires fits { (img : List ℕ) × (size : ℕ) × WorldFits world.now img size }
     ensures yes { IsTrue result → HasCommand world.now who }
@@ -24,7 +25,7 @@ fn is_busy(world: &World, who: u32) -> bool
 
 /// Tells, in the order of their numbers, which openers have a command that isn't done. Where memory was wanting the
 /// first of these lines were added.
-pub fn finish_report(world: &World, report: &mut TurnReport) -> Result<(), AllocError>
+pub(crate) fn finish_report(world: &AllOpeners, report: &mut TurnReport) -> Result<(), AllocError>
     requires fits { (img : List ℕ) × (size : ℕ) × WorldFits world.now img size }
     ensures ok { OnOk result ((lines : List Line) × (report.new.lines ≡ report.old.lines ++ lines) × IsEnd world.now lines) }
     ensures err { OnErr result ((told : List Line) × (left : List Line) × (report.new.lines ≡ report.old.lines ++ told) × IsEnd world.now (told ++ left)) }

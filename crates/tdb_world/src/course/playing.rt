@@ -13,11 +13,12 @@ ghost use Rattle.tdb_world.specs.Courses.Stops.{StopsLed};
 ghost use Rattle.tdb_world.specs.Courses.Playable.{IsPlayable, ArePlayable};
 ghost use Rattle.tdb_world.specs.Courses.Told.{PlayLed};
 
+use crate::OpenerStanding;
+use crate::all_openers::AllOpeners;
 use crate::course::advancing::{go_on, play_go, play_turn};
 use crate::course::dying::play_die;
 use crate::course::hearing::{drop_log, tell_logs};
 use crate::course::starting::{give_copy, play_give, play_join};
-use crate::{OpenerStanding, World};
 use tdb_commands::{Command, Line, Play, TurnReport};
 use tdb_disk::Disk;
 use tdb_log::{LogRefusal, Logs};
@@ -25,7 +26,7 @@ use tdb_openers::{RunFault, tell};
 
 /// An opener is given a command and takes turns of it up to the first that isn't a step, or the report says why not.
 fn play_do<D: Disk>(
-    world: &mut World,
+    world: &mut AllOpeners,
     d: &mut D,
     who: u32,
     command: &Command,
@@ -51,7 +52,7 @@ fn play_do<D: Disk>(
 
 /// Takes one play that drops no log, and adds what it gives to the report.
 fn take_play<D: Disk>(
-    world: &mut World,
+    world: &mut AllOpeners,
     d: &mut D,
     play: &Play,
     report: &mut TurnReport,
@@ -83,8 +84,8 @@ fn take_play<D: Disk>(
 /// more.
 ///
 /// Cost: that of its turns, of which there are nine at most, and of the copies of the command, one for each turn.
-pub fn play<D: Disk, L: Logs>(
-    world: &mut World,
+pub(crate) fn play<D: Disk, L: Logs>(
+    world: &mut AllOpeners,
     d: &mut D,
     play: &Play,
     report: &mut TurnReport,
@@ -114,8 +115,8 @@ pub fn play<D: Disk, L: Logs>(
 /// no memory, at which the disk fails, or of which a log refuses a notice; `play` says more.
 ///
 /// Cost: that of its turns, of which a play has nine at most, and of the copies of the commands, one for each turn.
-pub fn run<D: Disk, L: Logs>(
-    world: &mut World,
+pub(crate) fn run<D: Disk, L: Logs>(
+    world: &mut AllOpeners,
     d: &mut D,
     plays: &[Play],
     report: &mut TurnReport,

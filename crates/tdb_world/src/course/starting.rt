@@ -8,12 +8,13 @@ ghost use Rattle.tdb_world.specs.Steps.{HasNoCommand};
 ghost use Rattle.tdb_world.specs.Courses.Led.{Lengths};
 ghost use Rattle.tdb_world.specs.Courses.Told.{Gifted, GivesLine, PlayLedInAny};
 
-use crate::{JoinRefusal, OpenerStanding, World};
+use crate::all_openers::AllOpeners;
+use crate::{JoinRefusal, OpenerStanding};
 use tdb_commands::{Command, Line, TurnReport};
 use tdb_openers::{RunFault, put_line, tell};
 
 /// The line of a join: a new opener, or why there is none.
-fn join_line(world: &mut World) -> Line
+fn join_line(world: &mut AllOpeners) -> Line
     requires { (img : List ℕ) × (size : ℕ) × WorldFits world.old img size }
     ensures gives { GivesLine world.old world.new LawPlay.Join result }
     ensures header { world.new.openers.header ≡ world.old.openers.header }
@@ -30,7 +31,7 @@ fn join_line(world: &mut World) -> Line
 }
 
 /// A new opener joins, or the report says why none does.
-pub(crate) fn play_join(world: &mut World, report: &mut TurnReport) -> Result<(), RunFault>
+pub(crate) fn play_join(world: &mut AllOpeners, report: &mut TurnReport) -> Result<(), RunFault>
     requires { (img : List ℕ) × (size : ℕ) × WorldFits world.old img size }
     ensures led { PlayLedInAny world.old report.old.lines world.new report.new.lines result LawPlay.Join }
 {
@@ -41,7 +42,7 @@ pub(crate) fn play_join(world: &mut World, report: &mut TurnReport) -> Result<()
 
 /// Gives this command to an opener that may be given one. `Memory` where there is none for the copy of which a report
 /// tells, or where a transaction would begin within too many others: then nothing changes.
-pub(crate) fn give(world: &mut World, who: u32, command: Command) -> Result<(), RunFault>
+pub(crate) fn give(world: &mut AllOpeners, who: u32, command: Command) -> Result<(), RunFault>
     requires named { 1 ≤ who }
     requires free { HasNoCommand world.old who }
     requires fits { (img : List ℕ) × (size : ℕ) × WorldFits world.old img size }
@@ -56,7 +57,7 @@ pub(crate) fn give(world: &mut World, who: u32, command: Command) -> Result<(), 
 }
 
 /// Gives a copy of a command to an opener, as `give` says.
-pub(crate) fn give_copy(world: &mut World, who: u32, command: &Command) -> Result<(), RunFault>
+pub(crate) fn give_copy(world: &mut AllOpeners, who: u32, command: &Command) -> Result<(), RunFault>
     requires named { 1 ≤ who }
     requires free { HasNoCommand world.old who }
     requires fits { (img : List ℕ) × (size : ℕ) × WorldFits world.old img size }
@@ -71,7 +72,7 @@ pub(crate) fn give_copy(world: &mut World, who: u32, command: &Command) -> Resul
 
 /// An opener is given a command, or the report says why not.
 pub(crate) fn play_give(
-    world: &mut World,
+    world: &mut AllOpeners,
     who: u32,
     command: &Command,
     report: &mut TurnReport,

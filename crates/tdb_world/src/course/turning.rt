@@ -16,7 +16,8 @@ ghost use Rattle.tdb_world.specs.Courses.Led.{moment, Led};
 ghost use Rattle.tdb_world.specs.Courses.Stops.{StopsLed};
 ghost use Rattle.tdb_world.specs.Courses.Turns.{IsToldOf, Never, TakesOrClears};
 
-use crate::{Undone, World};
+use crate::Undone;
+use crate::all_openers::AllOpeners;
 use tdb_commands::{Command, Line, TurnReport};
 use tdb_disk::Disk;
 use tdb_openers::{RunFault, put_line, tell_growth, was_step};
@@ -35,7 +36,7 @@ pub(crate) fn length_of<D: Disk>(d: &mut D) -> Result<u64, Io>
 
 /// All that a turn needs before it is taken: room for its lines, the copy of its command, and the length of the file.
 fn before_turn<D: Disk>(
-    world: &World,
+    world: &AllOpeners,
     d: &mut D,
     who: u32,
     report: &mut TurnReport,
@@ -58,7 +59,7 @@ fn before_turn<D: Disk>(
 
 /// Undoes the gate that a dead opener left open, where one stands open, and tells it. The length of the file then.
 fn clear_gate<D: Disk>(
-    world: &mut World,
+    world: &mut AllOpeners,
     d: &mut D,
     from: u64,
     report: &mut TurnReport,
@@ -91,7 +92,7 @@ fn clear_gate<D: Disk>(
 /// Takes one turn of an opener's command in a world that isn't stale, and tells it, with a copy of the command that was
 /// made before. Whether it was a step.
 fn take_turn<D: Disk>(
-    world: &mut World,
+    world: &mut AllOpeners,
     d: &mut D,
     who: u32,
     command: Command,
@@ -126,7 +127,7 @@ fn take_turn<D: Disk>(
 /// Takes one turn of an opener's command, and tells it. In a stale world the open gate is undone before. Whether the
 /// turn was a step.
 pub(crate) fn told_turn<D: Disk>(
-    world: &mut World,
+    world: &mut AllOpeners,
     d: &mut D,
     who: u32,
     report: &mut TurnReport,

@@ -15,9 +15,10 @@ ghost use Rattle.tdb_world.specs.Courses.Told.{PlayLedInAny};
 ghost use Rattle.tdb_world.specs.Courses.Turns.{IsToldOf, Never};
 ghost use Rattle.tdb_world.specs.Courses.Unreported.{gift_lines, turn_lines, undo_lines, Unreported};
 
+use crate::all_openers::AllOpeners;
 use crate::course::starting::give;
 use crate::course::turning::length_of;
-use crate::{OpenerStanding, Undone, World};
+use crate::{OpenerStanding, Undone};
 use tdb_commands::Command;
 use tdb_disk::Disk;
 use tdb_locks::Turn;
@@ -33,7 +34,7 @@ struct MeasuredTurn {
 }
 
 /// Undoes the gate that a dead opener left open, where one stands open.
-fn undo_gate<D: Disk>(world: &mut World, d: &mut D) -> Result<Option<Undone>, RunFault>
+fn undo_gate<D: Disk>(world: &mut AllOpeners, d: &mut D) -> Result<Option<Undone>, RunFault>
     requires fits { WorldFits world.old (seen (D.history d.old)) (D.size d.old) }
     ensures led { Led D.tells (moment world.old (D.history d.old) (D.size d.old) (D.faults d.old) [])
         (moment world.new (D.history d.new) (D.size d.new) (D.faults d.new) (undo_lines result)) result
@@ -52,7 +53,11 @@ fn undo_gate<D: Disk>(world: &mut World, d: &mut D) -> Result<Option<Undone>, Ru
 }
 
 /// Takes one turn of an opener's command in a world that isn't stale, and looks at the file's length before and after.
-fn measured_turn<D: Disk>(world: &mut World, d: &mut D, who: u32) -> Result<MeasuredTurn, RunFault>
+fn measured_turn<D: Disk>(
+    world: &mut AllOpeners,
+    d: &mut D,
+    who: u32,
+) -> Result<MeasuredTurn, RunFault>
     requires named { 1 ≤ who }
     requires busy { HasCommand world.old who }
     requires fresh { world.old.stale ≡ false }
@@ -93,7 +98,7 @@ fn note_growth<L: Logs>(from: u64, to: u64, logs: &mut L) -> Result<(), LogRefus
 
 /// An opener takes a turn of the command that it has, with the answer of `turn_unreported`.
 fn busy_turn<D: Disk, L: Logs>(
-    world: &mut World,
+    world: &mut AllOpeners,
     d: &mut D,
     who: u32,
     logs: &mut L,
@@ -123,8 +128,8 @@ fn busy_turn<D: Disk, L: Logs>(
 /// never comes, and after `Io` the world may not be used any more.
 ///
 /// Cost: that of the turn, of two looks at the file's length, and of the undo where one is made. It copies nothing.
-pub fn turn_unreported<D: Disk, L: Logs>(
-    world: &mut World,
+pub(crate) fn turn_unreported<D: Disk, L: Logs>(
+    world: &mut AllOpeners,
     d: &mut D,
     who: u32,
     logs: &mut L,
@@ -148,8 +153,8 @@ pub fn turn_unreported<D: Disk, L: Logs>(
 /// then nothing has changed. `Io` never comes.
 ///
 /// Cost: one copy of the command, a hash of its key, and a look-up among the chains that the opener holds.
-pub fn give_unreported(
-    world: &mut World,
+pub(crate) fn give_unreported(
+    world: &mut AllOpeners,
     who: u32,
     command: Command,
 ) -> Result<OpenerStanding, RunFault>

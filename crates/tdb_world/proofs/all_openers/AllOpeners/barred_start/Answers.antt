@@ -1,0 +1,32 @@
+-- The Start waits for who is aside, or ends and leaves all else as it is.
+use Rattle.std.proofs.Common.{◌≡◌, ℕ, false, slice_set, sym, ◌∙◌, ap, subst}
+use Rattle.tdb_law.specs.Commands.Reply.{Memory}
+use Rattle.tdb_law.specs.Commands.Turn.{Blocked, Ends}
+use Rattle.tdb_commands.specs.InLaw.{law_opener}
+use Rattle.tdb_world.specs.Steps.{TurnLeads}
+use Rattle.tdb_world.specs.Whole.{Whole, WorldFits}
+use Rattle.tdb_world.proofs.OwnStart.{dropped_fits, start_blocked, start_starved}
+use Rattle.tdb_world.proofs.all_openers.AllOpeners.barred_start.Goals as goal
+
+-- without the Start of this opener
+abbrev without : ℕ → Whole → Whole
+without who w = record w { starts = slice_set w.starts (law_opener who) false }
+
+pub returns-then-holds-clause-turned : goal.returns-then-holds-clause-turned
+returns-then-holds-clause-turned c img size h F state S =
+    let w = c.args.self.now in
+    let there = ap (λ (z : Whole). z.aside) (sym c.self.view_is) ∙ c.in-Some.is in
+    subst (λ o. TurnLeads w w h h c.args.who (Blocked (law_opener o) 8)) (sym c.owner.ensures)
+    (λ state S. start_blocked w (law_opener c.args.who) img size F c.requires.begun c.requires.fresh c.in-Some.holder there h (λ k past s side. (c.holds.ensures.law _ _ k past s side).0 c.if-holds.true) state S) state S
+
+pub returns-clause-fits : goal.returns-clause-fits
+returns-clause-fits c img size F =
+    let now : c.drop_start.new.self ≡ without c.args.who c.args.self.now = c.drop_start.ensures in
+    subst (λ z. WorldFits z img size) (sym now) (dropped_fits c.args.self.now (law_opener c.args.who) img size F)
+
+pub returns-clause-turned : goal.returns-clause-turned
+returns-clause-turned c img size h F =
+    let w = c.args.self.now in
+    let now : c.drop_start.new.self ≡ without c.args.who w = c.drop_start.ensures in
+    let there = ap (λ (z : Whole). z.aside) (sym c.self.view_is) ∙ c.in-Some.is in
+    subst (λ z. TurnLeads w z h h c.args.who (Ends Memory)) (sym now) (start_starved w (law_opener c.args.who) img size F c.requires.begun c.requires.fresh c.in-Some.holder there h)

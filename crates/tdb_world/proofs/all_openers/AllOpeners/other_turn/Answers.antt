@@ -1,0 +1,124 @@
+-- The turn is one on the bytes of the file, or that of an opener that is shut out.
+use Rattle.std.proofs.Common.{◌≡◌, refl, sym, subst}
+use Rattle.std.specs.Prelude.{Result, IfOk, OnOk, IsTrue}
+use Rattle.std.proofs.Common.{Ok, Err}
+use Rattle.tdb_disk.specs.History.{History, seen}
+use Rattle.tdb_locks.specs.declared.turn.Turn.TheVariants.{Step}
+use Rattle.tdb_law.specs.World.{State}
+use Rattle.tdb_commands.specs.InLaw.{law_opener, law_turn}
+use Rattle.tdb_openers.specs.Worlds.{Stands}
+use Rattle.tdb_openers.proofs.ExplicitLocks.Aside.{on_one}
+use Rattle.tdb_world.specs.States.{IsStateOf}
+use Rattle.tdb_world.specs.Steps.{HasCommand, TurnLeads}
+use Rattle.tdb_world.specs.Steps.HasCommand.{by_job}
+use Rattle.tdb_world.specs.Stops.{IsChanging, IsSafe}
+use Rattle.tdb_world.specs.Whole.{form_at, WorldFits}
+use Rattle.tdb_world.proofs.OtherTurns.{OnlyOne, open_fits, open_leads, put_openers, same_fits, shut_leads, still_among}
+use Rattle.tdb_world.proofs.Spared.{not_midway}
+use Rattle.tdb_world.proofs.Stopping.{still_leaves}
+use Rattle.tdb_world.proofs.all_openers.AllOpeners.other_turn.Given
+use Rattle.tdb_world.proofs.all_openers.AllOpeners.other_turn.Goals as goal
+use Rattle.tdb_world.proofs.all_openers.AllOpeners.other_turn.Goals.{After-turn_in_file}
+
+-- what holds of the value of an answer that is Ok
+if_ok : {V E : Type 0} (r : Result V E) (P : Type 0) (Q R : V → Type 0) → ((x : V) → P → Q x → R x) → OnOk r P → IfOk r Q → IfOk r R
+if_ok (Ok x) P Q R from p q = from x p q
+if_ok (Err e) P Q R from p q = tt
+
+pub returns-in-Some-clause-fits : goal.returns-in-Some-clause-fits
+returns-in-Some-clause-fits g c =
+    let old = c.args.self.now in
+    let new = c.shut_out_turn.new.self in
+    let E = c.shut_out_turn.ensures in
+    let img = seen (g.D.Disk.history c.args.d.now) in
+    let size = g.D.Disk.size c.args.d.now in
+    let K : OnlyOne old.openers new.openers (law_opener c.args.who) = record { header = E.header; options = E.options; joined = E.joined; others = E.others } in
+    subst (λ z. WorldFits z img size) (sym (put_openers old new E.rest))
+    (same_fits old new.openers c.args.who c.requires.named c.requires.among c.requires.begun K c.requires.fresh img size c.requires.fits (E.openers img size c.requires.fits.openers))
+
+pub returns-in-Some-clause-turned : goal.returns-in-Some-clause-turned
+returns-in-Some-clause-turned g c told state S =
+    let old = c.args.self.now in
+    let new = c.shut_out_turn.new.self in
+    let E = c.shut_out_turn.ensures in
+    let h = g.D.Disk.history c.args.d.now in
+    let x = c.requires.busy.0 in
+    let t = c.requires.busy.1 in
+    let B = c.requires.busy.2 in
+    let K : OnlyOne old.openers new.openers (law_opener c.args.who) = record { header = E.header; options = E.options; joined = E.joined; others = E.others } in
+    subst (λ z. TurnLeads old z h h c.args.who (law_turn c.shut_out_turn.result)) (sym (put_openers old new E.rest))
+    (shut_leads old new.openers c.args.who x t (law_turn c.shut_out_turn.result) (seen h) (g.D.Disk.size c.args.d.now) c.requires.named B c.requires.among c.requires.begun c.requires.fresh c.requires.fits K h c.in-Some.field-0.owner c.in-Some.field-0.bars c.in-Some.ensures.some
+    (λ img past s O. E.turned img past s x t B O)) state S
+
+pub returns-in-None-clause-fits : goal.returns-in-None-clause-fits
+returns-in-None-clause-fits g c =
+    let old = c.args.self.now in
+    let new = c.turn_in_file.new.self in
+    let E = c.turn_in_file.ensures in
+    let a = seen (g.D.Disk.history c.args.d.now) in
+    let b = seen (g.D.Disk.history c.turn_in_file.new.d) in
+    let size = g.D.Disk.size c.args.d.now in
+    let longer = g.D.Disk.size c.turn_in_file.new.d in
+    let K : OnlyOne old.openers new.openers (law_opener c.args.who) = record { header = E.header; options = E.options; joined = E.joined; others = E.others } in
+    on_one c.turn_in_file.result (Stands new.openers b longer) (WorldFits new b longer)
+    (λ W. subst (λ z. WorldFits z b longer) (sym (put_openers old new E.rest))
+    (open_fits old new.openers c.args.who c.requires.named c.requires.among c.requires.begun K c.requires.fresh c.in-None.ensures.none a b size longer (λ calm. (E.calm calm).1) c.requires.fits W))
+    E.stands
+
+pub returns-in-None-clause-turned : goal.returns-in-None-clause-turned
+returns-in-None-clause-turned g c =
+    let old = c.args.self.now in
+    let new = c.turn_in_file.new.self in
+    let E = c.turn_in_file.ensures in
+    let h = g.D.Disk.history c.args.d.now in
+    let later = g.D.Disk.history c.turn_in_file.new.d in
+    let x = c.requires.busy.0 in
+    let t = c.requires.busy.1 in
+    let B = c.requires.busy.2 in
+    let K : OnlyOne old.openers new.openers (law_opener c.args.who) = record { header = E.header; options = E.options; joined = E.joined; others = E.others } in
+    if_ok c.turn_in_file.result _ _ (λ turn. IsTrue g.D.Disk.tells → TurnLeads old new h later c.args.who (law_turn turn))
+    (λ turn bytes turned told. subst (λ z. TurnLeads old z h later c.args.who (law_turn turn)) (sym (put_openers old new E.rest))
+    (open_leads old new.openers c.args.who x t (law_turn turn) (seen h) (g.D.Disk.size c.args.d.now) c.requires.named B c.requires.among c.requires.begun c.requires.fresh c.requires.fits K h later c.in-None.ensures.none
+    (bytes told) (λ F. turned told F x t B) (λ calm. (E.calm calm).0)))
+    E.bytes E.turned
+
+pub returns-in-None-clause-busy : goal.returns-in-None-clause-busy
+returns-in-None-clause-busy g c =
+    let old = c.args.self.now in
+    let new = c.turn_in_file.new.self in
+    let E = c.turn_in_file.ensures in
+    let K : OnlyOne old.openers new.openers (law_opener c.args.who) = record { header = E.header; options = E.options; joined = E.joined; others = E.others } in
+    if_ok c.turn_in_file.result _ _ (λ turn. turn ≡ Step → HasCommand new c.args.who)
+    (λ turn stands busy is. subst (λ z. HasCommand z c.args.who) (sym (put_openers old new E.rest))
+    (let B = busy is in by_job B.0 B.1 B.2 c.requires.begun (still_among old new.openers c.args.who c.requires.named c.requires.among c.requires.begun K)))
+    E.stands E.busy
+
+pub returns-in-Some-clause-stops : goal.returns-in-Some-clause-stops
+returns-in-Some-clause-stops g c told state S safe never =
+    let h = g.D.Disk.history c.args.d.now in still_leaves c.args.self.now h h state (law_opener c.args.who) refl S safe
+
+-- a turn that doesn't go on with a change leaves the history
+module _ (g : Given.Over) (c : After-turn_in_file g) (state : State) where
+  abbrev h : History
+  h = g.D.Disk.history c.args.d.now
+
+  same : IsStateOf c.args.self.now h state → (IsChanging (form_at c.args.self.now) state (law_opener c.args.who) → ⊥) → g.D.Disk.history c.turn_in_file.new.d ≡ h
+  same S never =
+      let B = c.requires.busy in
+      c.turn_in_file.ensures.spared B.0 B.1 B.2 (not_midway c.args.self.now c.args.who B.0 B.1 h state c.requires.named B.2 c.requires.among c.requires.begun S never)
+
+pub returns-in-None-clause-stops : goal.returns-in-None-clause-stops
+returns-in-None-clause-stops g c told state S safe never =
+    still_leaves c.args.self.now (g.D.Disk.history c.args.d.now) (g.D.Disk.history c.turn_in_file.new.d) state (law_opener c.args.who)
+    (same g (goal.at.returns-in-None-clause-stops g c).After-turn_in_file state S never) S safe
+
+pub returns-in-None-clause-safe : goal.returns-in-None-clause-safe
+returns-in-None-clause-safe g c =
+    on_one c.turn_in_file.result _ _
+    (λ done told state S safe never. subst (IsSafe (form_at c.args.self.now)) (sym (same g (goal.at.returns-in-None-clause-safe g c).After-turn_in_file state S never)) safe)
+    c.turn_in_file.ensures.done
+
+pub returns-in-None-clause-no_sync : goal.returns-in-None-clause-no_sync
+returns-in-None-clause-no_sync g c state S never =
+    let B = c.requires.busy in
+    c.turn_in_file.ensures.no_sync B.0 B.1 B.2 (not_midway c.args.self.now c.args.who B.0 B.1 (g.D.Disk.history c.args.d.now) state c.requires.named B.2 c.requires.among c.requires.begun S never)

@@ -1,5 +1,0 @@
--- Plays are taken over the world's disk.
-use Rattle.tdb_world.proofs.file_world.FileWorld.run.Goals as goal
-
-pub returns-clause-taken : goal.returns-clause-taken
-returns-clause-taken g c = let e = c.run-taken.ensures in rw (← c.self.view_is) (record { led = e.led; stops = e.stops; heard = e.heard })
