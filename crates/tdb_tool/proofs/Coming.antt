@@ -11,7 +11,7 @@ use Rattle.tdb_world.specs.Whole.{form_at}
 use Rattle.tdb_tool.specs.declared.fault.SessionFault.{SessionFault}
 use Rattle.tdb_tool.specs.declared.fault.SessionFault.TheVariants as F
 use Rattle.tdb_world.specs.Courses.Scene.{Scene, IsStateAt}
-use Rattle.tdb_tool.specs.Serving.{UnlessBroken, OnBroken, HeardSo, Deed, TellsAll, TellsFront, LeavesAll, LeavesFront, RunsTo, FitsAt, DoneBetween, Led}
+use Rattle.tdb_tool.specs.Serving.{UnlessBroken, OnBroken, HeardSo, Deed, TellsAll, TellsFront, LeavesAll, LeavesFront, RunsTo, IsUnspent, DoneBetween, Led}
 use Rattle.tdb_tool.proofs.Hearing.{heard_after}
 use Rattle.tdb_tool.proofs.Stops.{LeadsOn, stops_nowhere, stops_after}
 use Rattle.tdb_tool.proofs.Telling.{front_all, front_after}
@@ -109,7 +109,7 @@ pub done_too : (start new : Scene) (answer other : Option SessionFault) (one two
     → ((lines : List Line) → HeardSo answer start.logs lines new.logs → HeardSo other start.logs lines new.logs) → IsToo one two
     → IsToo (DoneBetween start new answer one) (DoneBetween start new other two)
 done_too start new answer other one two moved told too f old after lines text (done, stops, heard) =
-    (too f old after lines text done, λ safe calm. (let S = stops safe calm in record { stops = S.stops; safe = moved (IsSafe f new.history) S.safe }), told lines heard)
+    (too f old after lines text done, λ safe calm. (let S = stops safe calm in record { stops = S.stops; safe = moved (IsSafe f new.over.history) S.safe }), told lines heard)
 
 done_follows : (start mid new : Scene) (answer : Option SessionFault) (first next both : Deed) → LeadsOn first → Follows first next both
     → Follows (DoneBetween start mid None first) (DoneBetween mid new answer next) (DoneBetween start new answer both)
@@ -121,14 +121,14 @@ done_follows start mid new answer first next both leads follows f old at after f
 
 module _ (disk_tells told : Bool) where
   -- nothing was done, which is something
-  pub led_nowhere : (whole part : Deed) (start : Scene) → ((f : Form) (old : State) → whole f old [] [] old) → FitsAt start → Led disk_tells told whole part start start None
-  led_nowhere whole part start nothing fits = record {
+  pub led_nowhere : (whole part : Deed) (start : Scene) → ((f : Form) (old : State) → whole f old [] [] old) → IsUnspent start → Led disk_tells told whole part start start None
+  led_nowhere whole part start nothing unspent = record {
     header = refl;
     options = refl;
-    fits = fits;
+    unspent = unspent;
     rises = omega arith;
     quiet = refl;
-    runs = λ heard state is. (state, is, ([], [], (nothing (form_at start.world) state, (λ safe calm. stops_nowhere start state is safe), refl), λ out. sym (append-nil start.written)));
+    runs = λ heard state is. (state, is, ([], [], (nothing (form_at start.over.world) state, (λ safe calm. stops_nowhere start state is safe), refl), λ out. sym (append-nil start.written)));
     rose = λ heard state is. tt;
   }
 
@@ -137,11 +137,11 @@ module _ (disk_tells told : Bool) where
   led_input whole part start new led = record {
     header = led.header;
     options = led.options;
-    fits = led.fits;
+    unspent = led.unspent;
     rises = led.rises;
     quiet = led.quiet;
     runs = λ heard state is.
-        left_as (form_at start.world) told (IsStateAt new) (DoneBetween start new None whole) (DoneBetween start new (Some F.Input) whole)
+        left_as (form_at start.over.world) told (IsStateAt new) (DoneBetween start new None whole) (DoneBetween start new (Some F.Input) whole)
         (done_too start new None (Some F.Input) whole whole (λ A a. a) (λ lines heard. heard) (λ f old after lines text done. done)) state start.written new.written (led.runs heard state is);
     rose = λ heard state is. tt;
   }
@@ -150,13 +150,13 @@ module _ (disk_tells told : Bool) where
   led_memory whole part too start new led = record {
     header = led.header;
     options = led.options;
-    fits = led.fits;
+    unspent = led.unspent;
     rises = led.rises;
     quiet = led.quiet;
     runs = λ heard state is.
-        left_front_as (form_at start.world) told (IsStateAt new) (DoneBetween start new None whole) (DoneBetween start new (Some F.Memory) part)
+        left_front_as (form_at start.over.world) told (IsStateAt new) (DoneBetween start new None whole) (DoneBetween start new (Some F.Memory) part)
         (done_too start new None (Some F.Memory) whole part (λ A a. a) (λ lines heard. inl heard) too) state start.written new.written
-        (left_front (form_at start.world) told (IsStateAt new) (DoneBetween start new None whole) state start.written new.written (led.runs heard state is));
+        (left_front (form_at start.over.world) told (IsStateAt new) (DoneBetween start new None whole) state start.written new.written (led.runs heard state is));
     rose = λ heard state is. tt;
   }
 
@@ -165,11 +165,11 @@ module _ (disk_tells told : Bool) where
   led_as whole part all some w p start new answer led = record {
     header = led.header;
     options = led.options;
-    fits = led.fits;
+    unspent = led.unspent;
     rises = led.rises;
     quiet = led.quiet;
     runs = λ heard state is.
-        runs_as (form_at start.world) told (IsStateAt new) (DoneBetween start new answer whole) (DoneBetween start new answer part) (DoneBetween start new answer all) (DoneBetween start new answer some)
+        runs_as (form_at start.over.world) told (IsStateAt new) (DoneBetween start new answer whole) (DoneBetween start new answer part) (DoneBetween start new answer all) (DoneBetween start new answer some)
         (done_too start new answer answer whole all (λ A a. a) (λ lines heard. heard) w) (done_too start new answer answer part some (λ A a. a) (λ lines heard. heard) p) state start.written new.written answer (led.runs heard state is);
     rose = led.rose;
   }
@@ -179,7 +179,7 @@ module _ (disk_tells told : Bool) where
   led_but_input whole other part start new fault but led = record {
     header = led.header;
     options = led.options;
-    fits = led.fits;
+    unspent = led.unspent;
     rises = led.rises;
     quiet = led.quiet;
     runs = λ heard state is. of (DoneBetween start new (Some fault) whole) (DoneBetween start new (Some fault) other) (DoneBetween start new (Some fault) part) state fault but (led.runs heard state is);
@@ -187,8 +187,8 @@ module _ (disk_tells told : Bool) where
   }
     where
       of : (one two some : Deed) (state : State) (fault : SessionFault) → (fault ≡ F.Input → ⊥)
-          → RunsTo one some (form_at start.world) state (IsStateAt new) told start.written new.written (Some fault)
-          → RunsTo two some (form_at start.world) state (IsStateAt new) told start.written new.written (Some fault)
+          → RunsTo one some (form_at start.over.world) state (IsStateAt new) told start.written new.written (Some fault)
+          → RunsTo two some (form_at start.over.world) state (IsStateAt new) told start.written new.written (Some fault)
       of one two some state F.Input but runs = absurd (but refl)
       of one two some state F.Output but runs = runs
       of one two some state F.Device but runs = runs
@@ -198,21 +198,21 @@ module _ (disk_tells told : Bool) where
   -- something was done, and then something else
   module _ (first begun whole part both half : Deed) (leads : LeadsOn first) (all : Follows first whole both) (some : Follows first part half) (start mid new : Scene)
       (before : Led disk_tells told first begun start mid None) where
-    same_form : form_at mid.world ≡ form_at start.world
+    same_form : form_at mid.over.world ≡ form_at start.over.world
     same_form = ap form_in before.header
 
     pub led_on : (answer : Option SessionFault) → Led disk_tells told whole part mid new answer → Led disk_tells told both half start new answer
     led_on answer next = record {
       header = unless_map answer (λ same. same ∙ before.header) next.header;
       options = unless_map answer (λ same. same ∙ before.options) next.options;
-      fits = next.fits;
+      unspent = next.unspent;
       rises = (let one = before.rises in let two = next.rises in omega (arith, one, two));
       quiet = unless_map answer (λ same. same ∙ before.quiet) next.quiet;
       runs = λ heard state is.
           (let r = before.runs heard state is in
-          runs_after (form_at start.world) told (IsStateAt new) (DoneBetween start mid None first) (DoneBetween mid new answer whole) (DoneBetween mid new answer part)
+          runs_after (form_at start.over.world) told (IsStateAt new) (DoneBetween start mid None first) (DoneBetween mid new answer whole) (DoneBetween mid new answer part)
           (DoneBetween start new answer both) (DoneBetween start new answer half)
           (done_follows start mid new answer first whole both leads all) (done_follows start mid new answer first part half leads some) state r.0 start.written mid.written new.written answer r.2
           (subst (λ f. RunsTo (DoneBetween mid new answer whole) (DoneBetween mid new answer part) f r.0 (IsStateAt new) told mid.written new.written answer) same_form (next.runs heard r.0 r.1)));
-      rose = λ heard state is. (let r = before.runs heard state is in on_map answer (λ rose. subst (λ n. Rose n new.faults) before.quiet rose) (next.rose heard r.0 r.1));
+      rose = λ heard state is. (let r = before.runs heard state is in on_map answer (λ rose. subst (λ n. Rose n new.over.faults) before.quiet rose) (next.rose heard r.0 r.1));
     }

@@ -22,7 +22,8 @@ use Rattle.tdb_tool.specs.declared.fault.SessionFault.TheVariants as F
 use Rattle.tdb_tool.specs.Parts.{Listed, move, Going, AllDone, AllCame}
 use Rattle.tdb_tool.specs.Replies.{ends_with_pair, tells_pair, tell_pair, line_text, lines_text}
 use Rattle.tdb_world.specs.Courses.Scene.{Scene, IsStateAt}
-use Rattle.tdb_tool.specs.Serving.{fault_of, Deed, FitsAt, Led, Ran, PlayDone, PlayBegun, Played}
+use Rattle.tdb_world.specs.OverFile.{FitsFile}
+use Rattle.tdb_tool.specs.Serving.{fault_of, Deed, Led, Ran, PlayDone, PlayBegun, Played}
 use Rattle.tdb_tool.proofs.Coming.{Follows, led_on, led_but_input}
 use Rattle.tdb_tool.proofs.WalkEnds.{move_at, Moved as LawMoved, first_moves, moves_fit}
 use Rattle.tdb_tool.proofs.Moves.{ends_pair, shows}
@@ -144,11 +145,11 @@ going_moved f listing (suc n) old new lines (mid, front, rest, cut, going, gives
     move_in (suc n) gives = gives
 
 -- so many moves can't all have given pairs over a file that isn't too long
-module _ (disk_tells told : Bool) (listing : Listing) (n : ℕ) (start now : Scene) (so_far : SoFar disk_tells told listing n start now) (many : MOST_MOVES ≤ n) (fits : FitsAt start)
-    (sized : IsTrue disk_tells → length (seen start.history) ≡ start.size) where
+module _ (disk_tells told : Bool) (listing : Listing) (n : ℕ) (start now : Scene) (so_far : SoFar disk_tells told listing n start now) (many : MOST_MOVES ≤ n) (fits : FitsFile start.over)
+    (sized : IsTrue disk_tells → length (seen start.over.history) ≡ start.over.size) where
   too_many : IsTrue disk_tells → (state : State) → IsStateAt start state → ⊥
   too_many heard state is =
-      let f = form_at start.world in
+      let f = form_at start.over.world in
       let p = so_far.runs heard state is in
       let lines = law_lines p.2.0 in
       let moved = going_moved f listing n state p.0 p.2.0 p.2.2.0.0 in
@@ -156,8 +157,8 @@ module _ (disk_tells told : Bool) (listing : Listing) (n : ℕ) (start now : Sce
       let first = first_moves f 0 (n - 1) state p.0 lines (subst (λ m. LawMoved f 0 m state lines p.0) (sym some) moved) in
       let short = fits.openers.short in
       let limit = fits.openers.limit in
-      let size : length (seen start.history) ≤ 4294963200 = (let same = sized heard in omega (arith, same, short, limit)) in
-      let S = sees_within start.world start.history start.size 4294963200 fits size limit state is first.0 first.1 in
+      let size : length (seen start.over.history) ≤ 4294963200 = (let same = sized heard in omega (arith, same, short, limit)) in
+      let S = sees_within start.over.world start.over.history start.over.size 4294963200 fits size limit state is first.0 first.1 in
       let few = moves_fit f 0 n state p.0 lines S.image S.hands S.accepted S.map moved in
       let within = S.short in
       omega (arith, few, within, many)
@@ -166,7 +167,7 @@ module _ (disk_tells told : Bool) (listing : Listing) (n : ℕ) (start now : Sce
   list_full = record {
     header = so_far.header;
     options = so_far.options;
-    fits = so_far.fits;
+    unspent = so_far.unspent;
     rises = so_far.rises;
     quiet = so_far.quiet;
     runs = λ heard state is. absurd (too_many heard state is);

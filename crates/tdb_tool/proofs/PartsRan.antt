@@ -5,14 +5,14 @@ use Rattle.tdb_tool.specs.declared.fault.SessionFault.{SessionFault}
 use Rattle.tdb_tool.specs.declared.fault.SessionFault.TheVariants as F
 use Rattle.tdb_tool.specs.Parts.{Part, AllDone, AllCame}
 use Rattle.tdb_world.specs.Courses.Scene.{Scene}
-use Rattle.tdb_tool.specs.Serving.{FitsAt, Ran}
+use Rattle.tdb_tool.specs.Serving.{IsUnspent, Ran}
 use Rattle.tdb_tool.proofs.Coming.{led_nowhere, led_input, led_memory, led_on}
 use Rattle.tdb_tool.proofs.PartLemmas.{all_join, all_came, came_after, all_course}
 
 module _ (disk_tells told : Bool) where
   -- no part was done
-  pub ran_none : (start : Scene) → FitsAt start → Ran disk_tells told start start [] None
-  ran_none start fits = led_nowhere disk_tells told (AllDone []) (AllCame []) start (λ f old. (refl, refl, refl)) fits
+  pub ran_none : (start : Scene) → IsUnspent start → Ran disk_tells told start start [] None
+  ran_none start unspent = led_nowhere disk_tells told (AllDone []) (AllCame []) start (λ f old. (refl, refl, refl)) unspent
 
   -- parts were done, and then the input failed, or memory was wanting
   pub ran_input : (start new : Scene) (parts : List Part) → Ran disk_tells told start new parts None → Ran disk_tells told start new parts (Some F.Input)

@@ -2,7 +2,6 @@
 use Rattle.std.proofs.Common.{◌≡◌, ℕ, List, [], ◌∷◌, ◌++◌, Option, None, Some, Result, Ok, Err, refl, sym, ◌∙◌, ap, subst, inl, inr, arith}
 use Rattle.std.specs.Prelude.{Bool, IsTrue}
 use Rattle.std.proofs.lemmas.List.{append-nil}
-use Rattle.tdb_disk.specs.History.{History}
 use Rattle.tdb_space.specs.Form.{Form}
 use Rattle.tdb_backup.specs.Dump.{WroteFront}
 use Rattle.tdb_dump.specs.declared.listing.Listing.{Listing}
@@ -17,14 +16,15 @@ use Rattle.tdb_commands.specs.InLaw.{law_play, law_lines}
 use Rattle.tdb_commands.specs.declared.command.Command.{Command}
 use Rattle.tdb_commands.specs.declared.line.Line.{Line}
 use Rattle.tdb_commands.specs.declared.play.Play.{Play}
-use Rattle.tdb_openers.specs.Played.{Begun, PlaysLast}
+use Rattle.tdb_openers.specs.Played.{PlaysLast}
 use Rattle.tdb_openers.specs.declared.fault.RunFault.{RunFault}
 use Rattle.tdb_openers.specs.declared.fault.RunFault.TheVariants as Run
-use Rattle.tdb_world.specs.Whole.{Whole, form_at}
+use Rattle.tdb_world.specs.Whole.{form_at}
 use Rattle.tdb_world.specs.Stops.{IsSafe}
-use Rattle.tdb_world.specs.Courses.Hearing.{HeardBy, HeardLed}
-use Rattle.tdb_world.specs.Courses.Led.{moment, Led as PlayLed}
-use Rattle.tdb_world.specs.Courses.Stops.{IsTransacted, StopsLed}
+use Rattle.tdb_world.specs.OverFile.{OverFile, moment_of}
+use Rattle.tdb_world.specs.OverFiles.Plays.{RunAnswer, is_io, TookPlay}
+use Rattle.tdb_world.specs.Courses.Hearing.{HeardBy}
+use Rattle.tdb_world.specs.Courses.Stops.{IsTransacted}
 use Rattle.tdb_tool.specs.declared.fault.SessionFault.{SessionFault}
 use Rattle.tdb_tool.specs.declared.fault.SessionFault.TheVariants as F
 use Rattle.tdb_tool.specs.declared.order.Order.{Order}
@@ -46,88 +46,87 @@ silent_begun : (f : Form) (play : Play) (old new : State) (lines : List Line) �
 silent_begun f play old new lines B = one_begun f (Silent play) old new lines (record { count = 0; mid = old; front = []; rest = lines; lines_cut = refl; going = (refl, refl); last = B })
 
 -- a play that led from one moment to another, by this answer
-module _ (disk_tells told : Bool) (a b : Whole) (h later : History) (size longer faults more : ℕ) (first lines : List Line) (empty : first ≡ []) (play : Play) (written : List ℕ) (logs heard : List Logged) where
-  abbrev Taken : Result (Result (Unit {0}) LogRefusal) RunFault → Type 0
-  Taken answer = PlayLed disk_tells (moment a h size faults first) (moment b later longer more lines) answer
-      (λ state _. Gives (form_at a) state (law_play play)) (λ state. Begun (form_at a) state (law_play play)) (λ state. PlaysLast (form_at a) state (law_play play))
+module _ (disk_tells told : Bool) (a b : OverFile) (first lines : List Line) (empty : first ≡ []) (play : Play) (written : List ℕ) (logs heard : List Logged) where
+  abbrev form : Form
+  form = form_at a.world
 
-  -- with what stops meanwhile leave, and what logs heard
-  abbrev Stopped : Result (Result (Unit {0}) LogRefusal) RunFault → Type 0
-  Stopped answer = StopsLed disk_tells (moment a h size faults first) (moment b later longer more lines) answer
+  -- with what stops meanwhile leave, and what logs heard; the world is spent where the disk failed
+  abbrev Taken : RunAnswer → Type 0
+  Taken answer = TookPlay disk_tells (moment_of a first) (moment_of b lines) logs heard play answer
 
-  abbrev Heard : Result (Result (Unit {0}) LogRefusal) RunFault → Type 0
-  Heard answer = HeardLed disk_tells (moment a h size faults first) (moment b later longer more lines) logs heard answer
+  abbrev Spent : RunAnswer → Type 0
+  Spent answer = b.spent ≡ is_io answer
 
   abbrev Before : Scene
-  Before = scene a h size faults written logs
+  Before = scene a written logs
 
   abbrev After : List ℕ → Scene
-  After now = scene b later longer more now heard
+  After now = scene b now heard
 
   -- what the lines that were added make, whatever their text is
   abbrev Begins : Deed → Type 0
   Begins part = (f : Form) (old new : State) (ls : List Line) → PlaysLast f old (law_play play) (law_lines ls) new → (text : List ℕ) × part f old ls text new
 
   -- it broke off, and nothing was written
-  pub play_broke : (whole part : Deed) → Begins part → (fault : RunFault) → Taken (Err fault) → Stopped (Err fault) → Heard (Err fault) → Led disk_tells told whole part Before (After written) (Some (of_run fault))
-  play_broke whole part begins Run.Io led stopped hears = record {
+  pub play_broke : (whole part : Deed) → Begins part → (fault : RunFault) → Taken (Err fault) → Spent (Err fault) → Led disk_tells told whole part Before (After written) (Some (of_run fault))
+  play_broke whole part begins Run.Io taken spent = record {
     header = tt;
     options = tt;
-    fits = tt;
-    rises = led.rises;
+    unspent = tt;
+    rises = taken.led.rises;
     quiet = tt;
     runs = λ tells state is.
-        (let r = led.told tells state is in
-        let p = begins (form_at a) state r.0 led.added r.1 in
-        let stops : IsSafe (form_at a) h → IsTransacted (form_at a) state (law_lines led.added) → StopsBetween Before (After written) (Some F.Device) (form_at a) state led.added
-        = λ safe calm. (let S = stopped tells state led.added is led.lines safe calm in record { stops = S.stops; safe = tt }) in
-        (r.0, (led.added, p.0, (p.1, stops, hears tells state led.added is led.lines), λ out. (0, omega arith, sym (append-nil written)))));
-    rose = λ tells state is. led.rose tells state is;
+        (let r = taken.led.told tells state is in
+        let p = begins form state r.0 taken.led.added r.1 in
+        let stops : IsSafe form a.history → IsTransacted form state (law_lines taken.led.added) → StopsBetween Before (After written) (Some F.Device) form state taken.led.added
+        = λ safe calm. (let S = taken.stops tells state taken.led.added is taken.led.lines safe calm in record { stops = S.stops; safe = tt }) in
+        (r.0, (taken.led.added, p.0, (p.1, stops, taken.heard tells state taken.led.added is taken.led.lines), λ out. (0, omega arith, sym (append-nil written)))));
+    rose = λ tells state is. taken.led.rose tells state is;
   }
-  play_broke whole part begins Run.Memory led stopped hears = record {
-    header = led.header;
-    options = led.options;
-    fits = led.fits;
-    rises = led.rises;
-    quiet = led.quiet;
+  play_broke whole part begins Run.Memory taken spent = record {
+    header = taken.led.header;
+    options = taken.led.options;
+    unspent = spent;
+    rises = taken.led.rises;
+    quiet = taken.led.quiet;
     runs = λ tells state is.
-        (let r = led.told tells state is in
-        let p = begins (form_at a) state r.0 led.added (inl r.2) in
-        let stops : IsSafe (form_at a) h → IsTransacted (form_at a) state (law_lines led.added) → StopsBetween Before (After written) (Some F.Memory) (form_at a) state led.added
-        = λ safe calm. (let S = stopped tells state led.added is led.lines safe calm in record { stops = S.stops; safe = S.left.3 }) in
-        (r.0, r.1, (led.added, p.0, (p.1, stops, hears tells state led.added is led.lines), λ out. (0, omega arith, sym (append-nil written)))));
+        (let r = taken.led.told tells state is in
+        let p = begins form state r.0 taken.led.added (inl r.2) in
+        let stops : IsSafe form a.history → IsTransacted form state (law_lines taken.led.added) → StopsBetween Before (After written) (Some F.Memory) form state taken.led.added
+        = λ safe calm. (let S = taken.stops tells state taken.led.added is taken.led.lines safe calm in record { stops = S.stops; safe = S.left.3 }) in
+        (r.0, r.1, (taken.led.added, p.0, (p.1, stops, taken.heard tells state taken.led.added is taken.led.lines), λ out. (0, omega arith, sym (append-nil written)))));
     rose = λ tells state is. tt;
   }
 
   -- it was taken
-  module _ (answer : Result (Unit {0}) LogRefusal) (led : Taken (Ok answer)) (stopped : Stopped (Ok answer)) (hears : Heard (Ok answer)) where
-    alone : led.added ≡ lines
-    alone = sym (led.lines ∙ ap (λ f. f ++ led.added) empty)
+  module _ (answer : Result (Unit {0}) LogRefusal) (taken : Taken (Ok answer)) (spent : Spent (Ok answer)) where
+    alone : taken.led.added ≡ lines
+    alone = sym (taken.led.lines ∙ ap (λ f. f ++ taken.led.added) empty)
 
-    gave : IsTrue disk_tells → (state : State) → IsStateAt Before state → (now : List ℕ) → (new : State) × IsStateAt (After now) new × Gives (form_at a) state (law_play play) (law_lines lines) new
-    gave tells state is now = let r = led.told tells state is in (r.0, r.1, subst (λ ls. Gives (form_at a) state (law_play play) (law_lines ls) r.0) alone r.2)
+    gave : IsTrue disk_tells → (state : State) → IsStateAt Before state → (now : List ℕ) → (new : State) × IsStateAt (After now) new × Gives form state (law_play play) (law_lines lines) new
+    gave tells state is now = let r = taken.led.told tells state is in (r.0, r.1, subst (λ ls. Gives form state (law_play play) (law_lines ls) r.0) alone r.2)
 
     all_lines : lines ≡ first ++ lines
     all_lines = sym (ap (λ f. f ++ lines) empty)
 
-    stops_at : IsTrue disk_tells → (state : State) → IsStateAt Before state → (now : List ℕ) → IsSafe (form_at a) h → IsTransacted (form_at a) state (law_lines lines)
-        → StopsBetween Before (After now) None (form_at a) state lines
-    stops_at tells state is now safe calm = let S = stopped tells state lines is all_lines safe calm in record { stops = S.stops; safe = S.left.3 }
+    stops_at : IsTrue disk_tells → (state : State) → IsStateAt Before state → (now : List ℕ) → IsSafe form a.history → IsTransacted form state (law_lines lines)
+        → StopsBetween Before (After now) None form state lines
+    stops_at tells state is now safe calm = let S = taken.stops tells state lines is all_lines safe calm in record { stops = S.stops; safe = S.left.3 }
 
     -- and no log refused, or one did, as is told by its answer
     heard_as : (told_so : Result (Unit {0}) LogRefusal) → answer ≡ told_so → IsTrue disk_tells → (state : State) → IsStateAt Before state → HeardBy logs lines heard (Ok told_so)
-    heard_as told_so so tells state is = subst (λ r. HeardBy logs lines heard (Ok r)) so (hears tells state lines is all_lines)
+    heard_as told_so so tells state is = subst (λ r. HeardBy logs lines heard (Ok r)) so (taken.heard tells state lines is all_lines)
 
     pub play_silent : (unit : Unit {0}) → answer ≡ Ok unit → Ran disk_tells told Before (After written) (Silent play ∷ []) None
     play_silent unit so = record {
-      header = led.header;
-      options = led.options;
-      fits = led.fits;
-      rises = led.rises;
-      quiet = led.quiet;
+      header = taken.led.header;
+      options = taken.led.options;
+      unspent = spent;
+      rises = taken.led.rises;
+      quiet = taken.led.quiet;
       runs = λ tells state is.
           (let r = gave tells state is written in
-          (r.0, r.1, (lines, [], (silent_done (form_at a) play state r.0 lines r.2, stops_at tells state is written, heard_as (Ok unit) so tells state is), λ out. sym (append-nil written))));
+          (r.0, r.1, (lines, [], (silent_done form play state r.0 lines r.2, stops_at tells state is written, heard_as (Ok unit) so tells state is), λ out. sym (append-nil written))));
       rose = λ tells state is. tt;
     }
 
@@ -135,67 +134,67 @@ module _ (disk_tells told : Bool) (a b : Whole) (h later : History) (size longer
     pub play_told : (listing : Option Listing) (now : List ℕ) → (IsTrue told → now ≡ written ++ lines_text listing lines) → (unit : Unit {0}) → answer ≡ Ok unit
         → (pair : Bool) → pair ≡ tell_pair lines → Played disk_tells told Before (After now) play listing (Ok pair)
     play_told listing now all unit so pair gives = record {
-      header = led.header;
-      options = led.options;
-      fits = led.fits;
-      rises = led.rises;
-      quiet = led.quiet;
+      header = taken.led.header;
+      options = taken.led.options;
+      unspent = spent;
+      rises = taken.led.rises;
+      quiet = taken.led.quiet;
       runs = λ tells state is.
           (let r = gave tells state is now in (r.0, r.1, (lines, lines_text listing lines, ((r.2, refl, gives), stops_at tells state is now, heard_as (Ok unit) so tells state is), all)));
       rose = λ tells state is. tt;
     }
 
     -- it was taken, and then it broke off
-    module _ (whole part : Deed) (now text : List ℕ) (makes : (state new : State) → Gives (form_at a) state (law_play play) (law_lines lines) new → part (form_at a) state lines text new) where
+    module _ (whole part : Deed) (now text : List ℕ) (makes : (state new : State) → Gives form state (law_play play) (law_lines lines) new → part form state lines text new) where
       broke : (fault : SessionFault) → ((A : Type 0) → A → UnlessBroken (Some fault) A) → IsTrue disk_tells → (state : State) → IsStateAt Before state → HeardSo (Some fault) logs lines heard
-          → (new : State) × IsStateAt (After now) new × DoneBetween Before (After now) (Some fault) part (form_at a) state lines text new
+          → (new : State) × IsStateAt (After now) new × DoneBetween Before (After now) (Some fault) part form state lines text new
       broke fault moved tells state is so =
           let r = gave tells state is now in
-          let stops : IsSafe (form_at a) h → IsTransacted (form_at a) state (law_lines lines) → StopsBetween Before (After now) (Some fault) (form_at a) state lines
-          = λ safe calm. (let S = stops_at tells state is now safe calm in record { stops = S.stops; safe = moved (IsSafe (form_at a) later) S.safe }) in
+          let stops : IsSafe form a.history → IsTransacted form state (law_lines lines) → StopsBetween Before (After now) (Some fault) form state lines
+          = λ safe calm. (let S = stops_at tells state is now safe calm in record { stops = S.stops; safe = moved (IsSafe form b.history) S.safe }) in
           (r.0, r.1, (makes state r.0 r.2, stops, so))
 
       -- a front of its text was written
       untold : (IsTrue told → WroteFront written text now) → (refusal : WriteRefusal) → Led disk_tells told whole part Before (After now) (Some (of_write refusal))
       untold front Untold.Failed = record {
-        header = led.header;
-        options = led.options;
-        fits = led.fits;
-        rises = led.rises;
-        quiet = led.quiet;
+        header = taken.led.header;
+        options = taken.led.options;
+        unspent = spent;
+        rises = taken.led.rises;
+        quiet = taken.led.quiet;
         runs = λ tells state is.
-            (let r = broke F.Output (λ A x. x) tells state is (heard_or_refused logs heard lines answer (hears tells state lines is all_lines)) in (r.0, r.1, (lines, text, r.2, front)));
+            (let r = broke F.Output (λ A x. x) tells state is (heard_or_refused logs heard lines answer (taken.heard tells state lines is all_lines)) in (r.0, r.1, (lines, text, r.2, front)));
         rose = λ tells state is. tt;
       }
       untold front Untold.Memory = record {
-        header = led.header;
-        options = led.options;
-        fits = led.fits;
-        rises = led.rises;
-        quiet = led.quiet;
+        header = taken.led.header;
+        options = taken.led.options;
+        unspent = spent;
+        rises = taken.led.rises;
+        quiet = taken.led.quiet;
         runs = λ tells state is.
-            (let r = broke F.Memory (λ A x. x) tells state is (heard_or_refused logs heard lines answer (hears tells state lines is all_lines)) in (r.0, r.1, (lines, text, r.2, front)));
+            (let r = broke F.Memory (λ A x. x) tells state is (heard_or_refused logs heard lines answer (taken.heard tells state lines is all_lines)) in (r.0, r.1, (lines, text, r.2, front)));
         rose = λ tells state is. tt;
       }
 
       -- or all of it, and a log had refused
       refused : (IsTrue told → now ≡ written ++ text) → (refusal : LogRefusal) → answer ≡ Err refusal → Led disk_tells told whole part Before (After now) (Some (of_log refusal))
       refused all Unheard.Failed so = record {
-        header = led.header;
-        options = led.options;
-        fits = led.fits;
-        rises = led.rises;
-        quiet = led.quiet;
+        header = taken.led.header;
+        options = taken.led.options;
+        unspent = spent;
+        rises = taken.led.rises;
+        quiet = taken.led.quiet;
         runs = λ tells state is.
             (let r = broke F.Log (λ A x. x) tells state is (heard_as (Err Unheard.Failed) so tells state is) in (r.0, r.1, (lines, text, r.2, all)));
         rose = λ tells state is. tt;
       }
       refused all Unheard.Memory so = record {
-        header = led.header;
-        options = led.options;
-        fits = led.fits;
-        rises = led.rises;
-        quiet = led.quiet;
+        header = taken.led.header;
+        options = taken.led.options;
+        unspent = spent;
+        rises = taken.led.rises;
+        quiet = taken.led.quiet;
         runs = λ tells state is.
             (let r = broke F.Memory (λ A x. x) tells state is (inr (Unheard.Memory, heard_as (Err Unheard.Memory) so tells state is)) in
             (r.0, r.1, (lines, text, r.2, λ out. front_all written text now (all out))));
@@ -203,7 +202,7 @@ module _ (disk_tells told : Bool) (a b : Whole) (h later : History) (size longer
       }
 
     module _ (listing : Option Listing) (now : List ℕ) where
-      begun : (state new : State) → Gives (form_at a) state (law_play play) (law_lines lines) new → PlayBegun play listing (form_at a) state lines (lines_text listing lines) new
+      begun : (state new : State) → Gives form state (law_play play) (law_lines lines) new → PlayBegun play listing form state lines (lines_text listing lines) new
       begun state new gives = (inr gives, refl)
 
       pub play_untold : (refusal : WriteRefusal) → (IsTrue told → WroteFront written (lines_text listing lines) now) → Played disk_tells told Before (After now) play listing (Err (of_write refusal))
@@ -214,7 +213,7 @@ module _ (disk_tells told : Bool) (a b : Whole) (h later : History) (size longer
 
     pub silent_refused : (refusal : LogRefusal) → answer ≡ Err refusal → Ran disk_tells told Before (After written) (Silent play ∷ []) (Some (of_log refusal))
     silent_refused refusal so =
-        refused (AllDone (Silent play ∷ [])) (AllCame (Silent play ∷ [])) written [] (λ state new gives. silent_begun (form_at a) play state new lines (inr gives)) (λ out. sym (append-nil written)) refusal so
+        refused (AllDone (Silent play ∷ [])) (AllCame (Silent play ∷ [])) written [] (λ state new gives. silent_begun form play state new lines (inr gives)) (λ out. sym (append-nil written)) refusal so
 
 -- what was begun of a play, with its text
 pub silent_begins : (play : Play) (f : Form) (old new : State) (lines : List Line) → PlaysLast f old (law_play play) (law_lines lines) new → (text : List ℕ) × AllCame (Silent play ∷ []) f old lines text new

@@ -12,7 +12,7 @@ use Rattle.tdb_tool.specs.declared.reader.LineReader.{LineReader}
 use Rattle.tdb_tool.specs.Asking.{Says, with_said, LinesAsk, EndsBefore}
 use Rattle.tdb_tool.specs.Lines.{unread as unread_of, lines_left, IsFresh}
 use Rattle.tdb_world.specs.Courses.Scene.{Scene}
-use Rattle.tdb_tool.specs.Serving.{FitsAt, Ran, ServedNext, Served}
+use Rattle.tdb_tool.specs.Serving.{IsUnspent, Ran, ServedNext, Served}
 use Rattle.tdb_tool.specs.declared.order.Order.{Order}
 use Rattle.tdb_tool.specs.Asked.{ReadLine}
 use Rattle.tdb_tool.specs.Parts.{part_of, parts_of}
@@ -50,14 +50,14 @@ pub record Serving (d i o : Bool) (start now : Scene) (text : List ℕ) (at : �
   pub place : at ≡ width before
   pub ran : Ran d o start now (parts_of orders) None
 
-pub begun : (d i o : Bool) (start : Scene) (text : List ℕ) (r : LineReader) → FitsAt start → IsFresh r → Serving d i o start start text r.at (lines_left r text)
-begun d i o start text r fits fresh = record {
+pub begun : (d i o : Bool) (start : Scene) (text : List ℕ) (r : LineReader) → IsUnspent start → IsFresh r → Serving d i o start start text r.at (lines_left r text)
+begun d i o start text r unspent fresh = record {
   orders = [];
   before = [];
   ask = refl;
   lines = λ told. sym (ap (λ (b : Bool). if b then [] else lines_of (unread_of r ++ text)) fresh.more ∙ ap (λ u. lines_of (u ++ text)) fresh.unread);
   place = fresh.place;
-  ran = ran_none d o start fits;
+  ran = ran_none d o start unspent;
 }
 
 parts_more : (orders others : List Order) → parts_of orders ++ parts_of others ≡ parts_of (orders ++ others)
@@ -99,15 +99,15 @@ module _ (d i o : Bool) (start now later : Scene) (text : List ℕ) (at next : �
 
 -- a line was read, and what it asks for was done, or broke off
 module _ (d i o : Bool) (old new : Scene) (at next : ℕ) (before after : List (List ℕ)) where
-  pub not_read : (fault : SessionFault) → (fault ≡ F.Input) ⊎ (fault ≡ F.Memory) → FitsAt old → ServedNext d i o old old at before next after (Err fault)
-  not_read fault (inl e) fits = ([], [], before, refl, λ told. refl, subst (λ f. Ran d o old old [] (Some f)) (sym e) (ran_input d o old old [] (ran_none d o old fits)))
-  not_read fault (inr e) fits = ([], [], before, refl, λ told. refl, subst (λ f. Ran d o old old [] (Some f)) (sym e) (ran_memory d o old old [] (ran_none d o old fits)))
+  pub not_read : (fault : SessionFault) → (fault ≡ F.Input) ⊎ (fault ≡ F.Memory) → IsUnspent old → ServedNext d i o old old at before next after (Err fault)
+  not_read fault (inl e) unspent = ([], [], before, refl, λ told. refl, subst (λ f. Ran d o old old [] (Some f)) (sym e) (ran_input d o old old [] (ran_none d o old unspent)))
+  not_read fault (inr e) unspent = ([], [], before, refl, λ told. refl, subst (λ f. Ran d o old old [] (Some f)) (sym e) (ran_memory d o old old [] (ran_none d o old unspent)))
 
   reach : (line : List ℕ) → next ≡ at + length line + 1 → next ≡ at + width (line ∷ [])
   reach line e = omega (arith, e, width_one line)
 
-  pub skipped : FitsAt old → ReadLine i at before next after (λ line. Says at line None) → ServedNext d i o old old at before next after (Ok None)
-  skipped fits (line, lines, e, says) = ([], line ∷ [], ask_none at line says, lines, reach line e, omega (arith, e), ran_none d o old fits)
+  pub skipped : IsUnspent old → ReadLine i at before next after (λ line. Says at line None) → ServedNext d i o old old at before next after (Ok None)
+  skipped unspent (line, lines, e, says) = ([], line ∷ [], ask_none at line says, lines, reach line e, omega (arith, e), ran_none d o old unspent)
 
   module _ (order : Order) (read : ReadLine i at before next after (λ line. Says at line (Some order) × (order ≡ Order.Quit → ⊥))) where
     alone : (answer : Option SessionFault) → Ran d o old new (part_of order) answer → Ran d o old new (parts_of (order ∷ [])) answer
@@ -120,5 +120,5 @@ module _ (d i o : Bool) (old new : Scene) (at next : ℕ) (before after : List (
     broken_off fault ran = (order ∷ [], read.0 ∷ [], after, ask_one at read.0 order read.3.0 read.3.1, read.1, alone (Some fault) ran)
 
 -- no line was read for want of memory
-pub unread : (d i o : Bool) (start : Scene) (text : List ℕ) → FitsAt start → Served d i o start start text (Err F.Memory)
-unread d i o start text fits = ([], λ told. record { before = []; after = lines_of text; lines = refl; ask = refl }, ran_memory d o start start [] (ran_none d o start fits))
+pub unread : (d i o : Bool) (start : Scene) (text : List ℕ) → IsUnspent start → Served d i o start start text (Err F.Memory)
+unread d i o start text unspent = ([], λ told. record { before = []; after = lines_of text; lines = refl; ask = refl }, ran_memory d o start start [] (ran_none d o start unspent))

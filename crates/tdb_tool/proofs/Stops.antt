@@ -32,9 +32,9 @@ accepted_safe f h accepted quiet c left =
     subst (λ (q : List ℕ × List ℕ). Reopens q.0 q.1) (λ i. (sym (read_as_it_is f (seen h) accepted.shut) i, sym (quiet c left) i)) itself
 
 -- nothing was done
-pub stops_nowhere : (start : Scene) (state : State) → IsStateAt start state → IsSafe (form_at start.world) start.history → StopsBetween start start None (form_at start.world) state []
+pub stops_nowhere : (start : Scene) (state : State) → IsStateAt start state → IsSafe (form_at start.over.world) start.over.history → StopsBetween start start None (form_at start.over.world) state []
 stops_nowhere start state is safe = record {
-  stops = opens_first (form_at start.world) start.history start.history state 0 [] (safe_opens start.world start.history state is safe);
+  stops = opens_first (form_at start.over.world) start.over.history start.over.history state 0 [] (safe_opens start.over.world start.over.history state is safe);
   safe = safe;
 }
 
@@ -46,18 +46,18 @@ module _ (f : Form) (start mid new : Scene) (answer : Option SessionFault) (old 
   abbrev two : List LawLine
   two = law_lines rest
 
-  both_stop : LeavesOnly start.history mid.history (OpensOnTheWay f old one) → LeavesOnly mid.history new.history (OpensOnTheWay f at two)
-      → LeavesOnly start.history new.history (OpensOnTheWay f old (one ++ two))
+  both_stop : LeavesOnly start.over.history mid.over.history (OpensOnTheWay f old one) → LeavesOnly mid.over.history new.over.history (OpensOnTheWay f at two)
+      → LeavesOnly start.over.history new.over.history (OpensOnTheWay f old (one ++ two))
   both_stop first next =
-      leaves_join start.history mid.history new.history (OpensOnTheWay f old (one ++ two))
-      (leaves_weaker start.history mid.history (OpensOnTheWay f old one) (OpensOnTheWay f old (one ++ two)) (λ c O. (O.0, O.1, passes_front f old O.0 one two O.2, O.3)) first)
-      (leaves_weaker mid.history new.history (OpensOnTheWay f at two) (OpensOnTheWay f old (one ++ two)) (λ c O. (O.0, O.1, passes_behind f old at O.0 one two leads O.2, O.3)) next)
+      leaves_join start.over.history mid.over.history new.over.history (OpensOnTheWay f old (one ++ two))
+      (leaves_weaker start.over.history mid.over.history (OpensOnTheWay f old one) (OpensOnTheWay f old (one ++ two)) (λ c O. (O.0, O.1, passes_front f old O.0 one two O.2, O.3)) first)
+      (leaves_weaker mid.over.history new.over.history (OpensOnTheWay f at two) (OpensOnTheWay f old (one ++ two)) (λ c O. (O.0, O.1, passes_behind f old at O.0 one two leads O.2, O.3)) next)
 
-  pub stops_after : (IsSafe f start.history → IsTransacted f old one → StopsBetween start mid None f old front) → (IsSafe f mid.history → IsTransacted f at two → StopsBetween mid new answer f at rest)
-      → IsSafe f start.history → IsTransacted f old (law_lines (front ++ rest)) → StopsBetween start new answer f old (front ++ rest)
+  pub stops_after : (IsSafe f start.over.history → IsTransacted f old one → StopsBetween start mid None f old front) → (IsSafe f mid.over.history → IsTransacted f at two → StopsBetween mid new answer f at rest)
+      → IsSafe f start.over.history → IsTransacted f old (law_lines (front ++ rest)) → StopsBetween start new answer f old (front ++ rest)
   stops_after first next safe calm =
       let cut : law_lines (front ++ rest) ≡ one ++ two = map-append law_line front rest in
       let both : IsTransacted f old (one ++ two) = subst (IsTransacted f old) cut calm in
       let S = first safe (λ s o P. both s o (passes_front f old s one two P)) in
       let T = next S.safe (λ s o P. both s o (passes_behind f old at s one two leads P)) in
-      record { stops = subst (λ ls. LeavesOnly start.history new.history (OpensOnTheWay f old ls)) (sym cut) (both_stop S.stops T.stops); safe = T.safe }
+      record { stops = subst (λ ls. LeavesOnly start.over.history new.over.history (OpensOnTheWay f old ls)) (sym cut) (both_stop S.stops T.stops); safe = T.safe }

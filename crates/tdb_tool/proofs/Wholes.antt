@@ -159,35 +159,35 @@ module _ (f : Form) (options : Options) (a : List ℕ) (orders : List Order) (ol
       }
 
 -- so it ran, by its answer
-module _ (f : Form) (options : Options) (start last : Scene) (orders : List Order) (old : State) (loaded : IsLoaded f old (options_of options)) (over : IsOver f (seen start.history) old)
-    (safe : Quiet start.history → IsSafe f start.history) (told heard : Bool) (text : List ℕ) where
+module _ (f : Form) (options : Options) (start last : Scene) (orders : List Order) (old : State) (loaded : IsLoaded f old (options_of options)) (over : IsOver f (seen start.over.history) old)
+    (safe : Quiet start.over.history → IsSafe f start.over.history) (told heard : Bool) (text : List ℕ) where
   abbrev Opens : State → List LawLine → Type 0
-  Opens = StopsOpen f start.history last.history
+  Opens = StopsOpen f start.over.history last.over.history
 
-  opens : (answer : Option SessionFault) (lines : List Line) → (IsSafe f start.history → IsTransacted f old (law_lines lines) → StopsBetween start last answer f old lines) → Opens old (law_lines lines)
+  opens : (answer : Option SessionFault) (lines : List Line) → (IsSafe f start.over.history → IsTransacted f old (law_lines lines) → StopsBetween start last answer f old lines) → Opens old (law_lines lines)
   opens answer lines stops quiet calm = (stops (safe quiet) calm).stops
 
   abbrev Hears : Option SessionFault → List Line → Type 0
   Hears answer lines = HeardSo answer start.logs lines last.logs
 
   came_front : (answer : Option SessionFault) (new : State) → TellsFront (DoneBetween start last answer (AllCame (session_parts orders))) f old new told start.written last.written
-      → SessionCame f options (seen start.history) orders new told start.written last.written Opens (Hears answer)
+      → SessionCame f options (seen start.over.history) orders new told start.written last.written Opens (Hears answer)
   came_front answer new (lines, all, (comes, stops, heard), printed) =
-      came f options (seen start.history) orders old loaded over told start.written last.written Opens (Hears answer) new lines all comes printed (opens answer lines stops) heard
+      came f options (seen start.over.history) orders old loaded over told start.written last.written Opens (Hears answer) new lines all comes printed (opens answer lines stops) heard
 
   came_all : (answer : Option SessionFault) (new : State) → TellsAll (DoneBetween start last answer (AllCame (session_parts orders))) f old new told start.written last.written
-      → SessionCame f options (seen start.history) orders new told start.written last.written Opens (Hears answer)
+      → SessionCame f options (seen start.over.history) orders new told start.written last.written Opens (Hears answer)
   came_all answer new all = came_front answer new (all_is_front f told (DoneBetween start last answer (AllCame (session_parts orders))) old new start.written last.written all)
 
   ran_by : (answer : Result SessionEnd SessionFault) → (IsTrue heard → AsksFor text orders answer) → IsClosed answer last
-      → UnlessBroken (fault_of answer) ((new : State) → IsStateAt last new → IsReadAs f (seen last.history) new)
+      → UnlessBroken (fault_of answer) ((new : State) → IsStateAt last new → IsReadAs f (seen last.over.history) new)
       → RunsTo (DoneBetween start last (fault_of answer) (SessionDeed orders answer)) (DoneBetween start last (fault_of answer) (AllCame (session_parts orders))) f old (IsStateAt last) told
       start.written last.written (fault_of answer)
-      → SessionRan f options start.history last.history heard text told start.written last.written start.logs last.logs answer
+      → SessionRan f options start.over.history last.over.history heard text told start.written last.written start.logs last.logs answer
   ran_by (Ok end) asks closed read (new, is, p) = (
     orders,
     asks,
-    whole f options (seen start.history) orders old loaded over told start.written last.written Opens (Hears None) new (seen last.history) (read new is) (closed new is) p.0 p.1 p.2.0 p.3
+    whole f options (seen start.over.history) orders old loaded over told start.written last.written Opens (Hears None) new (seen last.over.history) (read new is) (closed new is) p.0 p.1 p.2.0 p.3
         (opens None p.0 p.2.1) p.2.2,
   )
   ran_by (Err F.Input) asks closed read (new, is, p) = (orders, asks, new, came_all (Some F.Input) new p, read new is)
@@ -198,13 +198,13 @@ module _ (f : Form) (options : Options) (start last : Scene) (orders : List Orde
 
 -- the same, from what the calls say of the moments, where the world is just loaded at the first
 module _ (d heard told : Bool) (text : List ℕ) (start last : Scene) (answer : Result SessionEnd SessionFault)
-    (led : SessionLed d heard told start last text answer) (tells : IsTrue d) (state : State) (just : IsJustLoaded start.world start.history state) where
-  left_read : UnlessBroken (fault_of answer) ((new : State) → IsStateAt last new → IsReadAs (form_at start.world) (seen last.history) new)
-  left_read = unless_map (fault_of answer) (λ kept new left. subst (λ f. IsReadAs f (seen last.history) new) (ap form_in kept) (state_reopens last.world last.history new left)) led.2.header
+    (led : SessionLed d heard told start last text answer) (tells : IsTrue d) (state : State) (just : IsJustLoaded start.over.world start.over.history state) where
+  left_read : UnlessBroken (fault_of answer) ((new : State) → IsStateAt last new → IsReadAs (form_at start.over.world) (seen last.over.history) new)
+  left_read = unless_map (fault_of answer) (λ kept new left. subst (λ f. IsReadAs f (seen last.over.history) new) (ap form_in kept) (state_reopens last.over.world last.over.history new left)) led.2.header
 
-  pub session_ran : AcceptWith (form_at start.world) (seen start.history) [] → SessionRan (form_at start.world) (options_at start.world) start.history last.history heard text told start.written last.written start.logs last.logs answer
+  pub session_ran : AcceptWith (form_at start.over.world) (seen start.over.history) [] → SessionRan (form_at start.over.world) (options_at start.over.world) start.over.history last.over.history heard text told start.written last.written start.logs last.logs answer
   session_ran accepted =
-      ran_by (form_at start.world) (options_at start.world) start last led.0 state just.loaded just.over (accepted_safe (form_at start.world) start.history accepted)
+      ran_by (form_at start.over.world) (options_at start.over.world) start last led.0 state just.loaded just.over (accepted_safe (form_at start.over.world) start.over.history accepted)
       told heard text answer led.1 led.3 left_read (led.2.runs tells state just.of_world)
 
 -- what is said of the stops of a session, and of what logs heard, may be something weaker

@@ -1,7 +1,6 @@
 -- How parts of a session are done over a file, as far as they come, and their text is written.
-use Rattle.std.specs.Prelude.{◌≡◌, ℕ, ◌<◌, ◌≤◌, ◌+◌, ◌⊎◌, Bool, IsTrue, List, ◌∷◌, ◌++◌, Option, None, Some, Result, Ok, Err, IfOk}
+use Rattle.std.specs.Prelude.{◌≡◌, ℕ, ◌<◌, ◌≤◌, ◌+◌, ◌⊎◌, Bool, IsTrue, List, ◌∷◌, ◌++◌, Option, None, Some, Result, Ok, Err, IfOk, false}
 use Rattle.tdb_disk.specs.Count.{Rose}
-use Rattle.tdb_disk.specs.History.{seen}
 use Rattle.tdb_disk.specs.Stop.{LeavesOnly}
 use Rattle.tdb_space.specs.Form.{Form}
 use Rattle.tdb_backup.specs.Dump.{WroteFront}
@@ -14,7 +13,7 @@ use Rattle.tdb_commands.specs.InLaw.{law_play, law_lines}
 use Rattle.tdb_commands.specs.declared.line.Line.{Line}
 use Rattle.tdb_commands.specs.declared.play.Play.{Play}
 use Rattle.tdb_openers.specs.Played.{PlaysLast}
-use Rattle.tdb_world.specs.Whole.{form_at, WorldFits}
+use Rattle.tdb_world.specs.Whole.{form_at}
 use Rattle.tdb_world.specs.Stops.{IsSafe}
 use Rattle.tdb_world.specs.Courses.Hearing.{Heard, HeardUpTo}
 use Rattle.tdb_world.specs.Courses.Scene.{Scene, IsStateAt}
@@ -97,15 +96,15 @@ RunsTo whole part f old IsLeft told before now (Some F.Device) = (left : State) 
 RunsTo whole part f old IsLeft told before now (Some F.Log) = LeavesAll part f old IsLeft told before now
 RunsTo whole part f old IsLeft told before now (Some F.Memory) = LeavesFront part f old IsLeft told before now
 
--- the world fits the file at a moment
-abbrev pub FitsAt : Scene → Type 0
-FitsAt s = WorldFits s.world (seen s.history) s.size
+-- the world isn't spent at a moment
+abbrev pub IsUnspent : Scene → Type 0
+IsUnspent s = s.over.spent ≡ false
 
 -- Each stop between two moments leaves a file that opens on the way that these lines, which were told in between, tell
 -- from a state; and unless the disk failed the file is safe at the second.
 pub record StopsBetween (old new : Scene) (answer : Option SessionFault) (f : Form) (state : State) (lines : List Line) : Type 0 where
-  pub stops : LeavesOnly old.history new.history (OpensOnTheWay f state (law_lines lines))
-  pub safe : UnlessBroken answer (IsSafe f new.history)
+  pub stops : LeavesOnly old.over.history new.over.history (OpensOnTheWay f state (law_lines lines))
+  pub safe : UnlessBroken answer (IsSafe f new.over.history)
 
 -- logs heard of all of these lines, or up to one whose notice the last of them refused
 abbrev pub HeardOrRefused : List Logged → List Line → List Logged → Type 0
@@ -125,21 +124,21 @@ HeardSo (Some F.Memory) old lines new = HeardOrRefused old lines new
 -- the lines are transacted, so it is of stops.
 abbrev pub DoneBetween : Scene → Scene → Option SessionFault → Deed → Deed
 DoneBetween old new answer deed f state lines text after =
-    deed f state lines text after × (IsSafe f old.history → IsTransacted f state (law_lines lines) → StopsBetween old new answer f state lines)
+    deed f state lines text after × (IsSafe f old.over.history → IsTransacted f state (law_lines lines) → StopsBetween old new answer f state lines)
     × HeardSo answer old.logs lines new.logs
 
 -- What was done led from one moment to another, and ended so, over a disk and an output that tell or don't: from each
 -- state that the world may have had to one that it has afterwards, with what stops meanwhile leave and what logs heard.
--- Unless the disk failed the world fits the file, and the count of faults is as it was.
+-- Unless the disk failed the world isn't spent, and the count of faults is as it was.
 pub record Led (disk_tells output_tells : Bool) (whole part : Deed) (old new : Scene) (answer : Option SessionFault) : Type 0 where
-  pub header : UnlessBroken answer (new.world.openers.header ≡ old.world.openers.header)
-  pub options : UnlessBroken answer (new.world.openers.options ≡ old.world.openers.options)
-  pub fits : UnlessBroken answer (FitsAt new)
-  pub rises : old.faults ≤ new.faults
-  pub quiet : UnlessBroken answer (new.faults ≡ old.faults)
+  pub header : UnlessBroken answer (new.over.world.openers.header ≡ old.over.world.openers.header)
+  pub options : UnlessBroken answer (new.over.world.openers.options ≡ old.over.world.openers.options)
+  pub unspent : UnlessBroken answer (IsUnspent new)
+  pub rises : old.over.faults ≤ new.over.faults
+  pub quiet : UnlessBroken answer (new.over.faults ≡ old.over.faults)
   pub runs : IsTrue disk_tells → (state : State) → IsStateAt old state
-      → RunsTo (DoneBetween old new answer whole) (DoneBetween old new answer part) (form_at old.world) state (IsStateAt new) output_tells old.written new.written answer
-  pub rose : IsTrue disk_tells → (state : State) → IsStateAt old state → OnBroken answer (Rose old.faults new.faults)
+      → RunsTo (DoneBetween old new answer whole) (DoneBetween old new answer part) (form_at old.over.world) state (IsStateAt new) output_tells old.written new.written answer
+  pub rose : IsTrue disk_tells → (state : State) → IsStateAt old state → OnBroken answer (Rose old.over.faults new.over.faults)
 
 -- Parts of a session were done, as far as they came.
 abbrev pub Ran : (disk_tells output_tells : Bool) (old new : Scene) → List Part → Option SessionFault → Type 0

@@ -1,11 +1,11 @@
 // A session from its beginning to its end.
 
-ghost use Rattle.std.specs.Prelude.{◌≡◌, ◌≤◌, [], IsTrue};
+ghost use Rattle.std.specs.Prelude.{◌≡◌, ◌≤◌, [], IsTrue, false};
 ghost use Rattle.tdb_disk.specs.Count.{HasCauseOf, Rose};
 ghost use Rattle.tdb_disk.specs.History.{seen};
 ghost use Rattle.tdb_space.specs.Accepted.{AcceptWith};
 ghost use Rattle.tdb_law.specs.World.{State};
-ghost use Rattle.tdb_world.specs.Whole.{form_at, options_at, WorldFits};
+ghost use Rattle.tdb_world.specs.Whole.{form_at, options_at};
 ghost use Rattle.tdb_world.specs.Loaded.{IsJustLoaded};
 ghost use Rattle.tdb_tool.specs.declared.fault.SessionFault.TheVariants as FaultIs;
 ghost use Rattle.tdb_world.specs.Courses.Scene.{scene};
@@ -19,56 +19,54 @@ use std::alloc::Global;
 use tdb_commands::{Command, Play};
 use tdb_disk::{Disk, Sink, Source};
 use tdb_log::Logs;
-use tdb_world::{OpenerStanding, World};
+use tdb_world::World;
 
 /// An opener joins, and does what the lines of the input order.
 fn join_and_serve<D: Disk, I: Source, K: Sink, L: Logs>(
     alloc: Global,
-    world: &mut World,
-    disk: &mut D,
+    world: &mut World<D>,
     input: &mut I,
     output: &mut K,
     logs: &mut L,
 ) -> Result<SessionEnd, SessionFault>
-    requires fits { WorldFits world.old (seen (D.history disk.old)) (D.size disk.old) }
-    ensures served { ServedAll D.tells I.tells K.tells (scene world.old (D.history disk.old) (D.size disk.old) (D.faults disk.old) (K.written output.old) (L.logs logs.old))
-        (scene world.new (D.history disk.new) (D.size disk.new) (D.faults disk.new) (K.written output.new) (L.logs logs.new)) (I.left input.old) result }
+    requires unspent { world.old.spent ≡ false }
+    ensures served { ServedAll D.tells I.tells K.tells (scene world.old (K.written output.old) (L.logs logs.old))
+        (scene world.new (K.written output.new) (L.logs logs.new)) (I.left input.old) result }
     ensures input_cause { HasCauseOf FaultIs.Input (I.faults input.old) (I.faults input.new) result }
     ensures cause { HasCauseOf FaultIs.Output (K.faults output.old) (K.faults output.new) result }
 {
-    take_silently(alloc, world, disk, Play::Join, logs)?;
-    if world.standing(OPENER) != OpenerStanding::Idle {
+    take_silently(alloc, world, Play::Join, logs)?;
+    if !world.is_idle(OPENER) {
         return Err(SessionFault::Memory);
     }
-    serve(alloc, world, disk, input, output, logs)
+    serve(alloc, world, input, output, logs)
 }
 
 /// An opener joins, does what the lines of the input order, and closes.
 fn serve_and_close<D: Disk, I: Source, K: Sink, L: Logs>(
     alloc: Global,
-    world: &mut World,
-    disk: &mut D,
+    world: &mut World<D>,
     input: &mut I,
     output: &mut K,
     logs: &mut L,
 ) -> Result<SessionEnd, SessionFault>
-    requires fits { WorldFits world.old (seen (D.history disk.old)) (D.size disk.old) }
-    ensures led { SessionLed D.tells I.tells K.tells (scene world.old (D.history disk.old) (D.size disk.old) (D.faults disk.old) (K.written output.old) (L.logs logs.old))
-        (scene world.new (D.history disk.new) (D.size disk.new) (D.faults disk.new) (K.written output.new) (L.logs logs.new)) (I.left input.old) result }
+    requires unspent { world.old.spent ≡ false }
+    ensures led { SessionLed D.tells I.tells K.tells (scene world.old (K.written output.old) (L.logs logs.old))
+        (scene world.new (K.written output.new) (L.logs logs.new)) (I.left input.old) result }
     ensures input_cause { HasCauseOf FaultIs.Input (I.faults input.old) (I.faults input.new) result }
     ensures cause { HasCauseOf FaultIs.Output (K.faults output.old) (K.faults output.new) result }
 {
-    let end = join_and_serve(alloc, world, disk, input, output, logs)?;
-    take_silently(alloc, world, disk, doing(Command::Close), logs)?;
-    match world.standing(OPENER) {
-        OpenerStanding::Absent => Ok(end),
-        _ => Err(SessionFault::Memory),
+    let end = join_and_serve(alloc, world, input, output, logs)?;
+    take_silently(alloc, world, doing(Command::Close), logs)?;
+    if world.is_live(OPENER) {
+        return Err(SessionFault::Memory);
     }
+    Ok(end)
 }
 
 /// Does what the lines of the input order, in a world over an opened file, by one opener that joins first and closes at
-/// the end; then the world is given up. The last log is told what each command did to the file. Then its reply and a
-/// newline are printed, and of a list each pair or key when it is found.
+/// the end; then the world is given up, and the disk comes back. The last log is told what each command did to the
+/// file. Then its reply and a newline are printed, and of a list each pair or key when it is found.
 ///
 /// The input is read in pieces, and no further than the next order's line as long as that is at hand. A session ends
 /// where the input does, at `quit`, or before a line that is no order, ends beyond `LONGEST_SESSION` bytes, or is
@@ -83,23 +81,21 @@ fn serve_and_close<D: Disk, I: Source, K: Sink, L: Logs>(
 /// one pair, and the pages of the file that a transaction changes.
 pub fn run_session<D: Disk, I: Source, K: Sink, L: Logs>(
     alloc: Global,
-    mut world: World,
-    disk: &mut D,
+    mut world: World<D>,
     input: &mut I,
     output: &mut K,
     logs: &mut L,
-) -> Result<SessionEnd, SessionFault>
-    requires fits { WorldFits world (seen (D.history disk.old)) (D.size disk.old) }
-    requires accepted { IsTrue D.tells → AcceptWith (form_at world) (seen (D.history disk.old)) [] }
-    ensures session { IsTrue D.tells → (state : State) → IsJustLoaded world (D.history disk.old) state
-        → SessionRan (form_at world) (options_at world) (D.history disk.old) (D.history disk.new) I.tells (I.left input.old) K.tells (K.written output.old) (K.written output.new) (L.logs logs.old) (L.logs logs.new) result }
-    ensures rises { D.faults disk.old ≤ D.faults disk.new }
-    ensures quiet { UnlessBroken (fault_of result) (D.faults disk.new ≡ D.faults disk.old) }
-    ensures rose { IsTrue D.tells → (state : State) → IsJustLoaded world (D.history disk.old) state → OnBroken (fault_of result) (Rose (D.faults disk.old) (D.faults disk.new)) }
-    ensures input_cause { HasCauseOf FaultIs.Input (I.faults input.old) (I.faults input.new) result }
-    ensures cause { HasCauseOf FaultIs.Output (K.faults output.old) (K.faults output.new) result }
+) -> (D, Result<SessionEnd, SessionFault>)
+    requires unspent { world.spent ≡ false }
+    requires accepted { IsTrue D.tells → AcceptWith (form_at world.world) (seen world.history) [] }
+    ensures session { IsTrue D.tells → (state : State) → IsJustLoaded world.world world.history state
+        → SessionRan (form_at world.world) (options_at world.world) world.history (D.history result.0) I.tells (I.left input.old) K.tells (K.written output.old) (K.written output.new) (L.logs logs.old) (L.logs logs.new) result.1 }
+    ensures rises { world.faults ≤ D.faults result.0 }
+    ensures quiet { UnlessBroken (fault_of result.1) (D.faults result.0 ≡ world.faults) }
+    ensures rose { IsTrue D.tells → (state : State) → IsJustLoaded world.world world.history state → OnBroken (fault_of result.1) (Rose world.faults (D.faults result.0)) }
+    ensures input_cause { HasCauseOf FaultIs.Input (I.faults input.old) (I.faults input.new) result.1 }
+    ensures cause { HasCauseOf FaultIs.Output (K.faults output.old) (K.faults output.new) result.1 }
 {
-    let answer = serve_and_close(alloc, &mut world, disk, input, output, logs);
-    world.end();
-    answer
+    let answer = serve_and_close(alloc, &mut world, input, output, logs);
+    (world.close(), answer)
 }

@@ -1,9 +1,7 @@
 // The parts of a session, as the one opener takes them.
 
-ghost use Rattle.std.specs.Prelude.{◌≡◌, ◌≢◌, ◌∷◌, [], ℕ, Bool, List, IfErr};
+ghost use Rattle.std.specs.Prelude.{◌≡◌, ◌≢◌, ◌∷◌, [], ℕ, Bool, List, IfErr, false};
 ghost use Rattle.tdb_disk.specs.Count.{HasCauseOf};
-ghost use Rattle.tdb_disk.specs.History.{seen};
-ghost use Rattle.tdb_world.specs.Whole.{WorldFits};
 ghost use Rattle.tdb_world.specs.Courses.Playable.{IsPlayable};
 ghost use Rattle.tdb_tool.specs.declared.fault.SessionFault.TheVariants as FaultIs;
 ghost use Rattle.tdb_tool.specs.Parts.{Silent, Listed, doing as doing_of, move as move_of, part_of, IsServedOrder};
@@ -35,19 +33,18 @@ pub(crate) fn doing(command: Command) -> Play
 /// Takes a play, of which nothing is printed, and tells the logs what became of the file.
 pub(crate) fn take_silently<D: Disk, L: Logs>(
     alloc: Global,
-    world: &mut World,
-    disk: &mut D,
+    world: &mut World<D>,
     play: Play,
     logs: &mut L,
 ) -> Result<(), SessionFault>
-    requires fits { WorldFits world.old (seen (D.history disk.old)) (D.size disk.old) }
+    requires unspent { world.old.spent ≡ false }
     requires playable { IsPlayable play }
-    ensures ran { (told : Bool) (written : List ℕ) → Ran D.tells told (scene world.old (D.history disk.old) (D.size disk.old) (D.faults disk.old) written (L.logs logs.old))
-        (scene world.new (D.history disk.new) (D.size disk.new) (D.faults disk.new) written (L.logs logs.new)) (Silent play ∷ []) (fault_of result) }
+    ensures ran { (told : Bool) (written : List ℕ) → Ran D.tells told (scene world.old written (L.logs logs.old))
+        (scene world.new written (L.logs logs.new)) (Silent play ∷ []) (fault_of result) }
     ensures fault { IfErr result (λ e. (e ≢ FaultIs.Input) × (e ≢ FaultIs.Output)) }
 {
     let mut report = TurnReport::new(alloc);
-    let heard = tdb_world::play(world, disk, &play, &mut report, logs)?;
+    let heard = world.play(&play, &mut report, logs)?;
     heard?;
     Ok(())
 }
@@ -56,22 +53,21 @@ pub(crate) fn take_silently<D: Disk, L: Logs>(
 /// listed so or aren't; that is printed too where a log refused. Whether it gave a pair.
 fn take_play<D: Disk, K: Sink, L: Logs>(
     alloc: Global,
-    world: &mut World,
-    disk: &mut D,
+    world: &mut World<D>,
     play: Play,
     listing: Option<Listing>,
     output: &mut K,
     logs: &mut L,
 ) -> Result<bool, SessionFault>
-    requires fits { WorldFits world.old (seen (D.history disk.old)) (D.size disk.old) }
+    requires unspent { world.old.spent ≡ false }
     requires playable { IsPlayable play }
-    ensures played { Played D.tells K.tells (scene world.old (D.history disk.old) (D.size disk.old) (D.faults disk.old) (K.written output.old) (L.logs logs.old))
-        (scene world.new (D.history disk.new) (D.size disk.new) (D.faults disk.new) (K.written output.new) (L.logs logs.new)) play listing result }
+    ensures played { Played D.tells K.tells (scene world.old (K.written output.old) (L.logs logs.old))
+        (scene world.new (K.written output.new) (L.logs logs.new)) play listing result }
     ensures fault { IfErr result (λ e. e ≢ FaultIs.Input) }
     ensures cause { HasCauseOf FaultIs.Output (K.faults output.old) (K.faults output.new) result }
 {
     let mut report = TurnReport::new(alloc);
-    let told = tdb_world::play(world, disk, &play, &mut report, logs)?;
+    let told = world.play(&play, &mut report, logs)?;
     write_replies(alloc, &report, listing, output)?;
     told?;
     Ok(has_pair(&report))
@@ -92,21 +88,21 @@ fn list_move(moves: u32) -> Play
 /// move. Where the bytes of the file change by themselves a walk might never end: the list is cut off then.
 fn take_list<D: Disk, K: Sink, L: Logs>(
     alloc: Global,
-    world: &mut World,
-    disk: &mut D,
+    world: &mut World<D>,
     listing: Listing,
     output: &mut K,
     logs: &mut L,
 ) -> Result<(), SessionFault>
-    requires fits { WorldFits world.old (seen (D.history disk.old)) (D.size disk.old) }
-    ensures ran { Ran D.tells K.tells (scene world.old (D.history disk.old) (D.size disk.old) (D.faults disk.old) (K.written output.old) (L.logs logs.old))
-        (scene world.new (D.history disk.new) (D.size disk.new) (D.faults disk.new) (K.written output.new) (L.logs logs.new)) (Listed listing ∷ []) (fault_of result) }
+    requires unspent { world.old.spent ≡ false }
+    ensures ran { Ran D.tells K.tells (scene world.old (K.written output.old) (L.logs logs.old))
+        (scene world.new (K.written output.new) (L.logs logs.new)) (Listed listing ∷ []) (fault_of result) }
     ensures fault { IfErr result (λ e. e ≢ FaultIs.Input) }
     ensures cause { HasCauseOf FaultIs.Output (K.faults output.old) (K.faults output.new) result }
 {
+    world.stands();
     for moves in 0..MOST_MOVES {
         let next = list_move(moves);
-        if !take_play(alloc, world, disk, next, Some(listing), output, logs)? {
+        if !take_play(alloc, world, next, Some(listing), output, logs)? {
             return Ok(());
         }
     }
@@ -116,25 +112,24 @@ fn take_list<D: Disk, K: Sink, L: Logs>(
 /// Does what is ordered, and prints what is to be printed of it.
 pub(crate) fn take_order<D: Disk, K: Sink, L: Logs>(
     alloc: Global,
-    world: &mut World,
-    disk: &mut D,
+    world: &mut World<D>,
     order: Order,
     output: &mut K,
     logs: &mut L,
 ) -> Result<(), SessionFault>
-    requires fits { WorldFits world.old (seen (D.history disk.old)) (D.size disk.old) }
+    requires unspent { world.old.spent ≡ false }
     requires served { IsServedOrder order }
-    ensures ran { Ran D.tells K.tells (scene world.old (D.history disk.old) (D.size disk.old) (D.faults disk.old) (K.written output.old) (L.logs logs.old))
-        (scene world.new (D.history disk.new) (D.size disk.new) (D.faults disk.new) (K.written output.new) (L.logs logs.new)) (part_of order) (fault_of result) }
+    ensures ran { Ran D.tells K.tells (scene world.old (K.written output.old) (L.logs logs.old))
+        (scene world.new (K.written output.new) (L.logs logs.new)) (part_of order) (fault_of result) }
     ensures fault { IfErr result (λ e. e ≢ FaultIs.Input) }
     ensures cause { HasCauseOf FaultIs.Output (K.faults output.old) (K.faults output.new) result }
 {
     match order {
         Order::Take(command) => {
-            take_play(alloc, world, disk, doing(command), None, output, logs)?;
+            take_play(alloc, world, doing(command), None, output, logs)?;
             Ok(())
         }
-        Order::List(listing) => take_list(alloc, world, disk, listing, output, logs),
+        Order::List(listing) => take_list(alloc, world, listing, output, logs),
         Order::Quit => Ok(()),
     }
 }

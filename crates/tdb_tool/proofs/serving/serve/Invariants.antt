@@ -8,8 +8,8 @@ use Rattle.tdb_tool.proofs.serving.serve.Given as goal
 
 abbrev pub invariant-loop-reader : goal.invariant-loop-reader
 invariant-loop-reader g l = record {
-  serving : Serving g.D.Disk.tells g.I.Source.tells g.K.Sink.tells (scene l.fn.world (g.D.Disk.history l.fn.disk) (g.D.Disk.size l.fn.disk) (g.D.Disk.faults l.fn.disk) (g.K.Sink.written l.fn.output) (g.L.Logs.logs l.fn.logs))
-      (scene l.world (g.D.Disk.history l.disk) (g.D.Disk.size l.disk) (g.D.Disk.faults l.disk) (g.K.Sink.written l.output) (g.L.Logs.logs l.logs)) (g.I.Source.left l.fn.input) l.reader.at (lines_left l.reader (g.I.Source.left l.input));
+  serving : Serving g.D.Disk.tells g.I.Source.tells g.K.Sink.tells (scene l.fn.world (g.K.Sink.written l.fn.output) (g.L.Logs.logs l.fn.logs))
+      (scene l.world (g.K.Sink.written l.output) (g.L.Logs.logs l.logs)) (g.I.Source.left l.fn.input) l.reader.at (lines_left l.reader (g.I.Source.left l.input));
   heard : g.I.Source.faults l.input ≡ g.I.Source.faults l.fn.input;
   out : g.K.Sink.faults l.output ≡ g.K.Sink.faults l.fn.output;
 }

@@ -2,18 +2,19 @@ use Rattle.tdb_tool.proofs.Wholes.{session_ran}
 use Rattle.tdb_tool.proofs.session.run_session.Goals as goal
 
 pub serve_and_close-answer-requires : goal.serve_and_close-answer-requires
-serve_and_close-answer-requires g c = record { fits = c.requires.fits }
+serve_and_close-answer-requires g c = record { unspent = c.requires.unspent }
 
 -- the world was just loaded
 pub returns-clause-session : goal.returns-clause-session
 returns-clause-session g c told state just =
-    session_ran g.D.Disk.tells g.I.Source.tells g.K.Sink.tells (g.I.Source.left c.args.input.now) _ _ c.serve_and_close-answer.result c.serve_and_close-answer.ensures.led told state just (c.requires.accepted told)
+    rw c.close.ensures.history
+    (session_ran g.D.Disk.tells g.I.Source.tells g.K.Sink.tells (g.I.Source.left c.args.input.now) _ _ c.serve_and_close-answer.result c.serve_and_close-answer.ensures.led told state just (c.requires.accepted told))
 
 pub returns-clause-rises : goal.returns-clause-rises
-returns-clause-rises g c = c.serve_and_close-answer.ensures.led.2.rises
+returns-clause-rises g c = rw c.close.ensures.faults c.serve_and_close-answer.ensures.led.2.rises
 
 pub returns-clause-quiet : goal.returns-clause-quiet
-returns-clause-quiet g c = c.serve_and_close-answer.ensures.led.2.quiet
+returns-clause-quiet g c = rw c.close.ensures.faults c.serve_and_close-answer.ensures.led.2.quiet
 
 pub returns-clause-rose : goal.returns-clause-rose
-returns-clause-rose g c told state just = c.serve_and_close-answer.ensures.led.2.rose told state just.of_world
+returns-clause-rose g c told state just = rw c.close.ensures.faults (c.serve_and_close-answer.ensures.led.2.rose told state just.of_world)

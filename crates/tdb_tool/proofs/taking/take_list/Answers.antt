@@ -7,14 +7,14 @@ use Rattle.tdb_tool.proofs.taking.take_list.Goals as goal
 
 pub loop-moves-init : goal.loop-moves-init
 loop-moves-init g c = record {
-  led = led_nowhere g.D.Disk.tells g.K.Sink.tells (Moved c.args.listing 0) _ (scene c.args.world.now (g.D.Disk.history c.args.disk.now) (g.D.Disk.size c.args.disk.now) (g.D.Disk.faults c.args.disk.now) (g.K.Sink.written c.args.output.now) (g.L.Logs.logs c.args.logs.now)) (no_moves c.args.listing) c.requires.fits;
+  led = led_nowhere g.D.Disk.tells g.K.Sink.tells (Moved c.args.listing 0) _ (scene c.args.world.now (g.K.Sink.written c.args.output.now) (g.L.Logs.logs c.args.logs.now)) (no_moves c.args.listing) c.requires.unspent;
   out = refl;
 }
 
 -- a move gave a pair
 pub loop-moves-preserved : goal.loop-moves-preserved
 loop-moves-preserved g c = record {
-  led = list_on g.D.Disk.tells g.K.Sink.tells c.args.listing c.loop-moves.moves (scene c.args.world.now (g.D.Disk.history c.args.disk.now) (g.D.Disk.size c.args.disk.now) (g.D.Disk.faults c.args.disk.now) (g.K.Sink.written c.args.output.now) (g.L.Logs.logs c.args.logs.now)) (scene c.loop-moves.world (g.D.Disk.history c.loop-moves.disk) (g.D.Disk.size c.loop-moves.disk) (g.D.Disk.faults c.loop-moves.disk) (g.K.Sink.written c.loop-moves.output) (g.L.Logs.logs c.loop-moves.logs)) (scene c.take_play.new.world (g.D.Disk.history c.take_play.new.disk) (g.D.Disk.size c.take_play.new.disk) (g.D.Disk.faults c.take_play.new.disk) (g.K.Sink.written c.take_play.new.output) (g.L.Logs.logs c.take_play.new.logs)) c.loop-moves.invariant.led c.list_move-next.result c.list_move-next.ensures c.in_ok-take_play.field-0 c.if-not-branch.false c.in_ok-take_play.ensures.played;
+  led = list_on g.D.Disk.tells g.K.Sink.tells c.args.listing c.loop-moves.moves (scene c.args.world.now (g.K.Sink.written c.args.output.now) (g.L.Logs.logs c.args.logs.now)) (scene c.loop-moves.world (g.K.Sink.written c.loop-moves.output) (g.L.Logs.logs c.loop-moves.logs)) (scene c.take_play.new.world (g.K.Sink.written c.take_play.new.output) (g.L.Logs.logs c.take_play.new.logs)) c.loop-moves.invariant.led c.list_move-next.result c.list_move-next.ensures c.in_ok-take_play.field-0 c.if-not-branch.false c.in_ok-take_play.ensures.played;
   out = c.in_ok-take_play.ensures.cause.done ∙ c.loop-moves.invariant.out;
 }
 
@@ -23,14 +23,14 @@ pub returns-in_err-take_play-clause-ran : goal.returns-in_err-take_play-clause-r
 returns-in_err-take_play-clause-ran g c =
     let q = err_from_is_err_and c.from_residual.result c.from_residual.ensures.1 in
     rw (q.1, q.2)
-    (list_broke g.D.Disk.tells g.K.Sink.tells c.args.listing c.loop-moves.moves (scene c.args.world.now (g.D.Disk.history c.args.disk.now) (g.D.Disk.size c.args.disk.now) (g.D.Disk.faults c.args.disk.now) (g.K.Sink.written c.args.output.now) (g.L.Logs.logs c.args.logs.now)) (scene c.loop-moves.world (g.D.Disk.history c.loop-moves.disk) (g.D.Disk.size c.loop-moves.disk) (g.D.Disk.faults c.loop-moves.disk) (g.K.Sink.written c.loop-moves.output) (g.L.Logs.logs c.loop-moves.logs)) (scene c.take_play.new.world (g.D.Disk.history c.take_play.new.disk) (g.D.Disk.size c.take_play.new.disk) (g.D.Disk.faults c.take_play.new.disk) (g.K.Sink.written c.take_play.new.output) (g.L.Logs.logs c.take_play.new.logs)) c.loop-moves.invariant.led c.list_move-next.result c.list_move-next.ensures c.in_err-take_play.field-0.0 c.in_err-take_play.ensures.fault c.in_err-take_play.ensures.played)
+    (list_broke g.D.Disk.tells g.K.Sink.tells c.args.listing c.loop-moves.moves (scene c.args.world.now (g.K.Sink.written c.args.output.now) (g.L.Logs.logs c.args.logs.now)) (scene c.loop-moves.world (g.K.Sink.written c.loop-moves.output) (g.L.Logs.logs c.loop-moves.logs)) (scene c.take_play.new.world (g.K.Sink.written c.take_play.new.output) (g.L.Logs.logs c.take_play.new.logs)) c.loop-moves.invariant.led c.list_move-next.result c.list_move-next.ensures c.in_err-take_play.field-0.0 c.in_err-take_play.ensures.fault c.in_err-take_play.ensures.played)
 
 -- it gave none
 pub returns-then-not-branch-clause-ran : goal.returns-then-not-branch-clause-ran
 returns-then-not-branch-clause-ran g c =
-    list_end g.D.Disk.tells g.K.Sink.tells c.args.listing c.loop-moves.moves (scene c.args.world.now (g.D.Disk.history c.args.disk.now) (g.D.Disk.size c.args.disk.now) (g.D.Disk.faults c.args.disk.now) (g.K.Sink.written c.args.output.now) (g.L.Logs.logs c.args.logs.now)) (scene c.loop-moves.world (g.D.Disk.history c.loop-moves.disk) (g.D.Disk.size c.loop-moves.disk) (g.D.Disk.faults c.loop-moves.disk) (g.K.Sink.written c.loop-moves.output) (g.L.Logs.logs c.loop-moves.logs)) (scene c.take_play.new.world (g.D.Disk.history c.take_play.new.disk) (g.D.Disk.size c.take_play.new.disk) (g.D.Disk.faults c.take_play.new.disk) (g.K.Sink.written c.take_play.new.output) (g.L.Logs.logs c.take_play.new.logs)) c.loop-moves.invariant.led c.list_move-next.result c.list_move-next.ensures c.in_ok-take_play.field-0 c.if-not-branch.true c.in_ok-take_play.ensures.played
+    list_end g.D.Disk.tells g.K.Sink.tells c.args.listing c.loop-moves.moves (scene c.args.world.now (g.K.Sink.written c.args.output.now) (g.L.Logs.logs c.args.logs.now)) (scene c.loop-moves.world (g.K.Sink.written c.loop-moves.output) (g.L.Logs.logs c.loop-moves.logs)) (scene c.take_play.new.world (g.K.Sink.written c.take_play.new.output) (g.L.Logs.logs c.take_play.new.logs)) c.loop-moves.invariant.led c.list_move-next.result c.list_move-next.ensures c.in_ok-take_play.field-0 c.if-not-branch.true c.in_ok-take_play.ensures.played
 
 -- so many gave pairs
 pub returns-clause-ran : goal.returns-clause-ran
 returns-clause-ran g c =
-    list_full g.D.Disk.tells g.K.Sink.tells c.args.listing c.loop-moves.moves (scene c.args.world.now (g.D.Disk.history c.args.disk.now) (g.D.Disk.size c.args.disk.now) (g.D.Disk.faults c.args.disk.now) (g.K.Sink.written c.args.output.now) (g.L.Logs.logs c.args.logs.now)) (scene c.loop-moves.world (g.D.Disk.history c.loop-moves.disk) (g.D.Disk.size c.loop-moves.disk) (g.D.Disk.faults c.loop-moves.disk) (g.K.Sink.written c.loop-moves.output) (g.L.Logs.logs c.loop-moves.logs)) c.loop-moves.invariant.led c.loop-moves-test.false c.requires.fits (g.met.D.Disk.told_size c.args.disk.now)
+    list_full g.D.Disk.tells g.K.Sink.tells c.args.listing c.loop-moves.moves (scene c.args.world.now (g.K.Sink.written c.args.output.now) (g.L.Logs.logs c.args.logs.now)) (scene c.loop-moves.world (g.K.Sink.written c.loop-moves.output) (g.L.Logs.logs c.loop-moves.logs)) c.loop-moves.invariant.led c.loop-moves-test.false (c.stands.ensures.fits c.requires.unspent) c.stands.ensures.sized

@@ -6,7 +6,7 @@ use Rattle.tdb_tool.proofs.taking.take_list.Given as goal
 
 abbrev pub invariant-loop-moves : goal.invariant-loop-moves
 invariant-loop-moves g l = record {
-  led : SoFar g.D.Disk.tells g.K.Sink.tells l.listing l.moves (scene l.fn.world (g.D.Disk.history l.fn.disk) (g.D.Disk.size l.fn.disk) (g.D.Disk.faults l.fn.disk) (g.K.Sink.written l.fn.output) (g.L.Logs.logs l.fn.logs))
-      (scene l.world (g.D.Disk.history l.disk) (g.D.Disk.size l.disk) (g.D.Disk.faults l.disk) (g.K.Sink.written l.output) (g.L.Logs.logs l.logs));
+  led : SoFar g.D.Disk.tells g.K.Sink.tells l.listing l.moves (scene l.fn.world (g.K.Sink.written l.fn.output) (g.L.Logs.logs l.fn.logs))
+      (scene l.world (g.K.Sink.written l.output) (g.L.Logs.logs l.logs));
   out : g.K.Sink.faults l.output ≡ g.K.Sink.faults l.fn.output;
 }

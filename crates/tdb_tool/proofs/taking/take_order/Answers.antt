@@ -12,15 +12,15 @@ pub returns-in_err-take_play-in-Take-clause-ran : goal.returns-in_err-take_play-
 returns-in_err-take_play-in-Take-clause-ran g c =
     let q = err_from_is_err_and c.from_residual.result c.from_residual.ensures.1 in
     rw (q.1, q.2)
-    (play_ordered g.D.Disk.tells g.K.Sink.tells (scene c.args.world.now (g.D.Disk.history c.args.disk.now) (g.D.Disk.size c.args.disk.now) (g.D.Disk.faults c.args.disk.now) (g.K.Sink.written c.args.output.now) (g.L.Logs.logs c.args.logs.now)) (scene c.take_play.new.world (g.D.Disk.history c.take_play.new.disk) (g.D.Disk.size c.take_play.new.disk) (g.D.Disk.faults c.take_play.new.disk) (g.K.Sink.written c.take_play.new.output) (g.L.Logs.logs c.take_play.new.logs)) c.args.order c.in-Take.command c.doing.result c.in-Take.is c.doing.ensures (Err c.in_err-take_play-in-Take.field-0.0) c.in_err-take_play-in-Take.ensures.played)
+    (play_ordered g.D.Disk.tells g.K.Sink.tells (scene c.args.world.now (g.K.Sink.written c.args.output.now) (g.L.Logs.logs c.args.logs.now)) (scene c.take_play.new.world (g.K.Sink.written c.take_play.new.output) (g.L.Logs.logs c.take_play.new.logs)) c.args.order c.in-Take.command c.doing.result c.in-Take.is c.doing.ensures (Err c.in_err-take_play-in-Take.field-0.0) c.in_err-take_play-in-Take.ensures.played)
 
 -- it was taken
 pub returns-in_ok-take_play-in-Take-clause-ran : goal.returns-in_ok-take_play-in-Take-clause-ran
 returns-in_ok-take_play-in-Take-clause-ran g c =
-    play_ordered g.D.Disk.tells g.K.Sink.tells (scene c.args.world.now (g.D.Disk.history c.args.disk.now) (g.D.Disk.size c.args.disk.now) (g.D.Disk.faults c.args.disk.now) (g.K.Sink.written c.args.output.now) (g.L.Logs.logs c.args.logs.now)) (scene c.take_play.new.world (g.D.Disk.history c.take_play.new.disk) (g.D.Disk.size c.take_play.new.disk) (g.D.Disk.faults c.take_play.new.disk) (g.K.Sink.written c.take_play.new.output) (g.L.Logs.logs c.take_play.new.logs)) c.args.order c.in-Take.command c.doing.result c.in-Take.is c.doing.ensures (Ok c.in_ok-take_play-in-Take.field-0) c.in_ok-take_play-in-Take.ensures.played
+    play_ordered g.D.Disk.tells g.K.Sink.tells (scene c.args.world.now (g.K.Sink.written c.args.output.now) (g.L.Logs.logs c.args.logs.now)) (scene c.take_play.new.world (g.K.Sink.written c.take_play.new.output) (g.L.Logs.logs c.take_play.new.logs)) c.args.order c.in-Take.command c.doing.result c.in-Take.is c.doing.ensures (Ok c.in_ok-take_play-in-Take.field-0) c.in_ok-take_play-in-Take.ensures.played
 
 -- nothing is done to quit
 pub returns-in-Quit-clause-ran : goal.returns-in-Quit-clause-ran
 returns-in-Quit-clause-ran g c =
-    let start = (scene c.args.world.now (g.D.Disk.history c.args.disk.now) (g.D.Disk.size c.args.disk.now) (g.D.Disk.faults c.args.disk.now) (g.K.Sink.written c.args.output.now) (g.L.Logs.logs c.args.logs.now)) in
-    subst (λ o. Ran g.D.Disk.tells g.K.Sink.tells start start (part_of o) None) (sym c.in-Quit.is) (ran_none g.D.Disk.tells g.K.Sink.tells start c.requires.fits)
+    let start = (scene c.args.world.now (g.K.Sink.written c.args.output.now) (g.L.Logs.logs c.args.logs.now)) in
+    subst (λ o. Ran g.D.Disk.tells g.K.Sink.tells start start (part_of o) None) (sym c.in-Quit.is) (ran_none g.D.Disk.tells g.K.Sink.tells start c.requires.unspent)

@@ -7,16 +7,16 @@ pub returns-in_err-told-clause-played : goal.returns-in_err-told-clause-played
 returns-in_err-told-clause-played g c =
     let q = err_from_is_err_and c.from_residual.result c.from_residual.ensures.1 in
     rw (q.1, q.2)
-    (play_broke g.D.Disk.tells g.K.Sink.tells _ _ _ _ _ _ _ _ _ _ c.new-report.ensures c.args.play (g.K.Sink.written c.args.output.now) _ _ _ _
-    (play_begins c.args.play c.args.listing) c.in_err-told.field-0.0 c.in_err-told.ensures.led c.in_err-told.ensures.stops c.in_err-told.ensures.heard)
+    (play_broke g.D.Disk.tells g.K.Sink.tells _ _ _ _ c.new-report.ensures c.args.play (g.K.Sink.written c.args.output.now) _ _ _ _
+    (play_begins c.args.play c.args.listing) c.in_err-told.field-0.0 c.in_err-told.ensures.taken c.in_err-told.ensures.spent)
 
 -- not all of its text was written
 pub returns-in_err-write_replies-clause-played : goal.returns-in_err-write_replies-clause-played
 returns-in_err-write_replies-clause-played g c =
     let q = err_from_is_err_and c.from_residual-in_err-write_replies.result c.from_residual-in_err-write_replies.ensures.1 in
     rw (q.1, q.2)
-    (play_untold g.D.Disk.tells g.K.Sink.tells _ _ _ _ _ _ _ _ _ _ c.new-report.ensures c.args.play (g.K.Sink.written c.args.output.now) _ _ _
-    c.in_ok-told.ensures.led c.in_ok-told.ensures.stops c.in_ok-told.ensures.heard
+    (play_untold g.D.Disk.tells g.K.Sink.tells _ _ _ _ c.new-report.ensures c.args.play (g.K.Sink.written c.args.output.now) _ _ _
+    c.in_ok-told.ensures.taken c.in_ok-told.ensures.spent
     c.args.listing (g.K.Sink.written c.write_replies.new.output) c.in_err-write_replies.field-0.0 c.in_err-write_replies.ensures.front)
 
 -- its text was written, and a log had refused
@@ -24,13 +24,13 @@ pub returns-in_err-told-2-clause-played : goal.returns-in_err-told-2-clause-play
 returns-in_err-told-2-clause-played g c =
     let q = err_from_is_err_and c.from_residual-in_err-told-2.result c.from_residual-in_err-told-2.ensures.1 in
     rw (q.1, q.2)
-    (play_refused g.D.Disk.tells g.K.Sink.tells _ _ _ _ _ _ _ _ _ _ c.new-report.ensures c.args.play (g.K.Sink.written c.args.output.now) _ _ _
-    c.in_ok-told.ensures.led c.in_ok-told.ensures.stops c.in_ok-told.ensures.heard
+    (play_refused g.D.Disk.tells g.K.Sink.tells _ _ _ _ c.new-report.ensures c.args.play (g.K.Sink.written c.args.output.now) _ _ _
+    c.in_ok-told.ensures.taken c.in_ok-told.ensures.spent
     c.args.listing (g.K.Sink.written c.write_replies.new.output) c.in_err-told-2.field-0.0 c.in_err-told-2.was c.in_ok-write_replies.ensures.whole)
 
 -- it was taken, and its text was written
 pub returns-clause-played : goal.returns-clause-played
 returns-clause-played g c =
-    play_told g.D.Disk.tells g.K.Sink.tells _ _ _ _ _ _ _ _ _ _ c.new-report.ensures c.args.play (g.K.Sink.written c.args.output.now) _ _ _
-    c.in_ok-told.ensures.led c.in_ok-told.ensures.stops c.in_ok-told.ensures.heard
+    play_told g.D.Disk.tells g.K.Sink.tells _ _ _ _ c.new-report.ensures c.args.play (g.K.Sink.written c.args.output.now) _ _ _
+    c.in_ok-told.ensures.taken c.in_ok-told.ensures.spent
     c.args.listing (g.K.Sink.written c.write_replies.new.output) c.in_ok-write_replies.ensures.whole c.in_ok-told-2.field-0 c.in_ok-told-2.was c.has_pair.result c.has_pair.ensures
