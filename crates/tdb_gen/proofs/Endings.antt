@@ -1,7 +1,6 @@
 -- What plays lead to, by how a turn ended.
 use Rattle.std.proofs.Common.{◌≡◌, ℕ, Bool, List, [], ◌++◌, Result, Ok, Err, IfOk, refl, sym, subst, inr}
 use Rattle.std.specs.Prelude.{IsTrue}
-use Rattle.tdb_disk.specs.History.{History}
 use Rattle.tdb_law.specs.Lines.{Line as LawLine}
 use Rattle.tdb_law.specs.Plays.{Course}
 use Rattle.tdb_law.specs.World.{State}
@@ -14,9 +13,11 @@ use Rattle.tdb_commands.specs.declared.play.Play.{Play}
 use Rattle.tdb_openers.specs.Played.{ComesTo}
 use Rattle.tdb_openers.specs.declared.fault.RunFault.{RunFault}
 use Rattle.tdb_openers.specs.declared.fault.RunFault.TheVariants as Run
-use Rattle.tdb_world.specs.Whole.{Whole, form_at}
+use Rattle.tdb_world.specs.Whole.{form_at}
+use Rattle.tdb_world.specs.OverFile.{OverFile, moment_of}
+use Rattle.tdb_world.specs.OverFiles.Plays.{is_io}
 use Rattle.tdb_world.specs.Courses.Hearing.{HeardLed}
-use Rattle.tdb_world.specs.Courses.Led.{Moment, moment, Led}
+use Rattle.tdb_world.specs.Courses.Led.{Moment, Led}
 use Rattle.tdb_gen.specs.declared.counts.Counts.{Counts}
 use Rattle.tdb_gen.specs.declared.fault.GenFault.{GenFault}
 use Rattle.tdb_gen.specs.declared.fault.GenFault.TheVariants.{Io, Memory, Log}
@@ -29,72 +30,72 @@ AreCounted before lines after = (told : List Line) → before ≡ counts_of told
 
 -- What is said of the plays in other words: all of them, those in front where a log refused, a part of them where
 -- memory was wanting, and what was done where the disk failed.
-module _ {V : Type 0} (t : Bool) (w v : Whole) (h k : History) (size longer faults more : ℕ) (lines : List Line) (before after : Counts) (logs later : List Logged) (plays : List Play)
+module _ {V : Type 0} (t : Bool) (w v : OverFile) (lines : List Line) (before after : Counts) (logs later : List Logged) (plays : List Play)
     (Does : State → Result V LogRefusal → List LawLine → State → Type 0) (Begins Fails : State → List LawLine → State → Type 0)
-    (all : (state : State) (u : V) (ls : List LawLine) (z : State) → Does state (Ok u) ls z → Course (form_at w) state (law_plays plays) ls z)
-    (some : (state : State) (refusal : LogRefusal) (ls : List LawLine) (z : State) → Does state (Err refusal) ls z → ComesTo (form_at w) state (law_plays plays) ls z)
-    (begun : (state : State) (ls : List LawLine) (z : State) → Begins state ls z → ComesTo (form_at w) state (law_plays plays) ls z)
-    (failed : (state : State) (ls : List LawLine) (z : State) → Fails state ls z → ComesTo (form_at w) state (law_plays plays) ls z) where
+    (all : (state : State) (u : V) (ls : List LawLine) (z : State) → Does state (Ok u) ls z → Course (form_at w.world) state (law_plays plays) ls z)
+    (some : (state : State) (refusal : LogRefusal) (ls : List LawLine) (z : State) → Does state (Err refusal) ls z → ComesTo (form_at w.world) state (law_plays plays) ls z)
+    (begun : (state : State) (ls : List LawLine) (z : State) → Begins state ls z → ComesTo (form_at w.world) state (law_plays plays) ls z)
+    (failed : (state : State) (ls : List LawLine) (z : State) → Fails state ls z → ComesTo (form_at w.world) state (law_plays plays) ls z) where
   abbrev Old : Place
-  Old = place w h size faults before logs
+  Old = place w before logs
 
   abbrev New : Place
-  New = place v k longer more after later
+  New = place v after later
 
   abbrev Start : Moment
-  Start = moment w h size faults []
+  Start = moment_of w []
 
   abbrev End : Moment
-  End = moment v k longer more lines
+  End = moment_of v lines
 
   module _ (answer : Result (Result V LogRefusal) RunFault) (led : Led t Start End answer Does Begins Fails) where
     pub added_is : led.added ≡ lines
     added_is = sym led.lines
 
     -- they came so far, and the logs heard of that
-    came : (fault : GenFault) (start last : State) → ComesTo (form_at w) start (law_plays plays) (law_lines led.added) last → HeardSo fault logs lines later → TookSome (form_at w) Old New plays fault start last
+    came : (fault : GenFault) (start last : State) → ComesTo (form_at w.world) start (law_plays plays) (law_lines led.added) last → HeardSo fault logs lines later → TookSome (form_at w.world) Old New plays fault start last
     came fault start last C heard = record {
       lines = lines;
-      came = subst (λ ls. ComesTo (form_at w) start (law_plays plays) (law_lines ls) last) added_is C;
+      came = subst (λ ls. ComesTo (form_at w.world) start (law_plays plays) (law_lines ls) last) added_is C;
       heard = heard;
     }
 
   abbrev pub all_taken : (u : V) → Led t Start End (Ok (Ok u)) Does Begins Fails → HeardLed {V = V} t Start End logs later (Ok (Ok u)) → AreCounted before lines after → IsTrue t → (start : State) → IsStateAt Old start
-      → (last : State) × IsStateAt New last × TookAll (form_at w) Old New plays start last
+      → (last : State) × IsStateAt New last × TookAll (form_at w.world) Old New plays start last
   all_taken u led hears counted tells start is =
       let r = led.told tells start is in (
         r.0,
         r.1,
         record {
           lines = lines;
-          course = subst (λ ls. Course (form_at w) start (law_plays plays) (law_lines ls) r.0) (added_is (Ok (Ok u)) led) (all start u (law_lines led.added) r.0 r.2);
+          course = subst (λ ls. Course (form_at w.world) start (law_plays plays) (law_lines ls) r.0) (added_is (Ok (Ok u)) led) (all start u (law_lines led.added) r.0 r.2);
           counted = counted;
           heard = hears tells start lines is refl;
         },
       )
 
   pub led_taken : (answer : Result (Result V LogRefusal) RunFault) → IfOk (end_of answer) (λ u. AreCounted before lines after) → Led t Start End answer Does Begins Fails → HeardLed t Start End logs later answer
-      → Taken t Old New plays (end_only (end_of answer))
-  led_taken (Ok (Ok u)) counted led hears = record {
+      → v.spent ≡ is_io answer → Taken t Old New plays (end_only (end_of answer))
+  led_taken (Ok (Ok u)) counted led hears spent = record {
     header = led.header;
-    fits = led.fits;
+    unspent = spent;
     rises = led.rises;
     quiet = led.quiet;
     told = all_taken u led hears counted;
     rose = λ tells start is. tt;
   }
-  led_taken (Ok (Err Unheard.Failed)) counted led hears = record {
+  led_taken (Ok (Err Unheard.Failed)) counted led hears spent = record {
     header = led.header;
-    fits = led.fits;
+    unspent = spent;
     rises = led.rises;
     quiet = led.quiet;
     told = λ tells start is.
         (let r = led.told tells start is in (r.0, r.1, came (Ok (Err Unheard.Failed)) led Log start r.0 (some start Unheard.Failed (law_lines led.added) r.0 r.2) (hears tells start lines is refl)));
     rose = λ tells start is. tt;
   }
-  led_taken (Ok (Err Unheard.Memory)) counted led hears = record {
+  led_taken (Ok (Err Unheard.Memory)) counted led hears spent = record {
     header = led.header;
-    fits = led.fits;
+    unspent = spent;
     rises = led.rises;
     quiet = led.quiet;
     told = λ tells start is.
@@ -102,17 +103,17 @@ module _ {V : Type 0} (t : Bool) (w v : Whole) (h k : History) (size longer faul
         (r.0, r.1, came (Ok (Err Unheard.Memory)) led Memory start r.0 (some start Unheard.Memory (law_lines led.added) r.0 r.2) (inr (Unheard.Memory, hears tells start lines is refl))));
     rose = λ tells start is. tt;
   }
-  led_taken (Err Run.Memory) counted led hears = record {
+  led_taken (Err Run.Memory) counted led hears spent = record {
     header = led.header;
-    fits = led.fits;
+    unspent = spent;
     rises = led.rises;
     quiet = led.quiet;
     told = λ tells start is. (let r = led.told tells start is in (r.0, r.1, came (Err Run.Memory) led Memory start r.0 (begun start (law_lines led.added) r.0 r.2) (hears tells start lines is refl)));
     rose = λ tells start is. tt;
   }
-  led_taken (Err Run.Io) counted led hears = record {
+  led_taken (Err Run.Io) counted led hears spent = record {
     header = tt;
-    fits = tt;
+    unspent = tt;
     rises = led.rises;
     quiet = tt;
     told = λ tells start is. (let r = led.told tells start is in (r.0, came (Err Run.Io) led Io start r.0 (failed start (law_lines led.added) r.0 r.1) (hears tells start lines is refl)));

@@ -1,6 +1,7 @@
 -- Joins and gifts, which make no call on the disk: what they lead to, one after the other.
-use Rattle.std.proofs.Common.{◌≡◌, ℕ, ◌+◌, true, List, [], ◌∷◌, ◌++◌, Result, Ok, Err, refl, sym, ◌∙◌, subst, arith, le_refl}
-use Rattle.tdb_disk.specs.History.{History, seen}
+use Rattle.std.proofs.Common.{◌≡◌, ℕ, ◌+◌, Bool, false, List, [], ◌∷◌, ◌++◌, Result, Ok, Err, refl, sym, ◌∙◌, ap, subst, arith}
+use Rattle.std.specs.Prelude.{IsTrue}
+use Rattle.tdb_disk.specs.History.{History}
 use Rattle.tdb_law.specs.Plays.{Gives}
 use Rattle.tdb_law.specs.Plays.Gives.{gives_opener}
 use Rattle.tdb_law.specs.World.{State}
@@ -16,65 +17,65 @@ use Rattle.tdb_openers.specs.declared.standings.OpenerStanding.{OpenerStanding}
 use Rattle.tdb_openers.specs.declared.standings.OpenerStanding.TheVariants as Stands
 use Rattle.tdb_world.specs.Steps.{JoinLeads}
 use Rattle.tdb_world.specs.States.{IsStateOf}
-use Rattle.tdb_world.specs.Whole.{Whole, form_at, WorldFits}
+use Rattle.tdb_world.specs.Whole.{Whole, form_at}
+use Rattle.tdb_world.specs.OverFile.{OverFile, HasState, moment_of}
+use Rattle.tdb_world.specs.OverFiles.Openers.{HasJoined}
 use Rattle.tdb_world.specs.Courses.Hearing.{Heard}
-use Rattle.tdb_world.specs.Courses.Told.{PlayLedInAny}
+use Rattle.tdb_world.specs.Courses.Told.{PlayLed}
 use Rattle.tdb_world.specs.Courses.Unreported.{gift_lines}
 use Rattle.tdb_gen.specs.declared.fault.GenFault.{GenFault}
 use Rattle.tdb_gen.specs.declared.fault.GenFault.TheVariants.{Memory}
 use Rattle.tdb_gen.specs.Counts.{counts_of}
-use Rattle.tdb_gen.specs.Taking.{HaveJoined, place, TakenInAny}
+use Rattle.tdb_gen.specs.Taking.{HaveJoined, place, TakenUncounted}
 use Rattle.tdb_gen.proofs.Counting.{counts_tally}
 use Rattle.tdb_gen.proofs.Takings.{taken_none, taken_join, taken_more, taken_not}
 
 -- no play yet, plays behind others, others that weren't begun, and none for want of memory
-pub any_none : (w : Whole) → TakenInAny w w [] (Ok tt)
-any_none w tells h size faults counts logs W = taken_none tells (place w h size faults counts logs) W
+module _ (t : Bool) where
+  pub any_none : (w : OverFile) → w.spent ≡ false → TakenUncounted t w w [] (Ok tt)
+  any_none w unspent counts logs = taken_none t (place w counts logs) unspent
 
-pub any_join : (w m v : Whole) (ps qs : List Play) (answer : Result (Unit {0}) GenFault) → TakenInAny w m ps (Ok tt) → TakenInAny m v qs answer → TakenInAny w v (ps ++ qs) answer
-any_join w m v ps qs answer one two tells h size faults counts logs W =
-    let A = one tells h size faults counts logs W in
-    taken_join tells (place w h size faults counts logs) (place m h size faults counts logs) (place v h size faults counts logs) ps A answer qs (two tells h size faults counts logs A.fits)
+  pub any_join : (w m v : OverFile) (ps qs : List Play) (answer : Result (Unit {0}) GenFault) → TakenUncounted t w m ps (Ok tt) → TakenUncounted t m v qs answer → TakenUncounted t w v (ps ++ qs) answer
+  any_join w m v ps qs answer one two counts logs = taken_join t (place w counts logs) (place m counts logs) (place v counts logs) ps (one counts logs) answer qs (two counts logs)
 
-pub any_more : (w v : Whole) (ps qs : List Play) (e : GenFault) → TakenInAny w v ps (Err e) → TakenInAny w v (ps ++ qs) (Err e)
-any_more w v ps qs e one tells h size faults counts logs W =
-    taken_more tells (place w h size faults counts logs) (place v h size faults counts logs) ps qs e (one tells h size faults counts logs W)
+  pub any_more : (w v : OverFile) (ps qs : List Play) (e : GenFault) → TakenUncounted t w v ps (Err e) → TakenUncounted t w v (ps ++ qs) (Err e)
+  any_more w v ps qs e one counts logs = taken_more t (place w counts logs) (place v counts logs) ps qs e (one counts logs)
 
-pub any_not : (w v : Whole) (plays : List Play) → v ≡ w → TakenInAny w v plays (Err Memory)
-any_not w v plays kept = rw kept (λ tells h size faults counts logs W. taken_not tells (place w h size faults counts logs) plays W)
+  pub any_not : (w v : OverFile) (plays : List Play) → w.spent ≡ false → v ≡ w → TakenUncounted t w v plays (Err Memory)
+  any_not w v plays unspent kept = rw kept (λ counts logs. taken_not t (place w counts logs) plays unspent)
 
--- one play with lines of which nothing is counted and no log hears
-one_taken : (w v : Whole) (play : Play) (lines : List Line) → ((told : List Line) → counts_of (told ++ lines) ≡ counts_of told) → ((logs : List Logged) → Heard logs lines logs)
-    → ((h : History) (size : ℕ) → WorldFits w (seen h) size → (v.openers.header ≡ w.openers.header) × WorldFits v (seen h) size
-    × ((state : State) → IsStateOf w h state → (after : State) × IsStateOf v h after × Gives (form_at w) state (law_play play) (law_lines lines) after))
-    → TakenInAny w v (play ∷ []) (Ok tt)
-one_taken w v play lines uncounted unheard leads tells h size faults counts logs W =
-    let L = leads h size W in
-    record {
-      header = L.0;
-      fits = L.1;
-      rises = le_refl faults;
-      quiet = refl;
-      told = λ told state is.
-          (let end = L.2 state is in (
-            end.0,
-            end.1,
-            record {
-              lines = lines;
-              course = course_then (form_at w) [] (law_play play) state state end.0 [] (law_lines lines) (refl, refl) end.2;
-              counted = λ front e. e ∙ sym (uncounted front);
-              heard = unheard logs;
-            },
-          ));
-      rose = λ told state is. tt;
-    }
+  -- one play with lines of which nothing is counted and no log hears
+  one_taken : (w v : OverFile) (play : Play) (lines : List Line) → ((told : List Line) → counts_of (told ++ lines) ≡ counts_of told) → ((logs : List Logged) → Heard logs lines logs)
+      → v.world.openers.header ≡ w.world.openers.header → v.spent ≡ false → v.faults ≡ w.faults
+      → (IsTrue t → (state : State) → HasState w state → (after : State) × HasState v after × Gives (form_at w.world) state (law_play play) (law_lines lines) after)
+      → TakenUncounted t w v (play ∷ []) (Ok tt)
+  one_taken w v play lines uncounted unheard header unspent quiet leads counts logs = record {
+    header = header;
+    unspent = unspent;
+    rises = omega (arith, quiet);
+    quiet = quiet;
+    told = λ told state is.
+        (let end = leads told state is in (
+          end.0,
+          end.1,
+          record {
+            lines = lines;
+            course = course_then (form_at w.world) [] (law_play play) state state end.0 [] (law_lines lines) (refl, refl) end.2;
+            counted = λ front e. e ∙ sym (uncounted front);
+            heard = unheard logs;
+          },
+        ));
+    rose = λ told state is. tt;
+  }
 
--- an opener joined
-pub join_taken : (w v : Whole) (who : ℕ) → v.openers.header ≡ w.openers.header → ((img : List ℕ) (size : ℕ) → WorldFits w img size → WorldFits v img size) → ((h : History) → JoinLeads w v h who)
-    → TakenInAny w v (Plays.Join ∷ []) (Ok tt)
-join_taken w v who header fits joins =
-    one_taken w v Plays.Join (Lines.Joined who ∷ []) (λ told. counts_tally told (Lines.Joined who ∷ [])) (λ logs. (logs, refl, refl))
-    (λ h size W. (header, fits (seen h) size W, λ state is. (let J = joins h state is in (J.0, J.1, gives_opener (law_opener who) refl refl J.2))))
+  -- an opener joined
+  pub join_taken : (w v : OverFile) (who : ℕ) → w.spent ≡ false → HasJoined w v who → TakenUncounted t w v (Plays.Join ∷ []) (Ok tt)
+  join_taken w v who unspent J =
+      one_taken w v Plays.Join (Lines.Joined who ∷ []) (λ told. counts_tally told (Lines.Joined who ∷ [])) (λ logs. (logs, refl, refl)) J.memory.form.header
+      (ap (λ (x : OverFile). x.spent) J.memory.file ∙ unspent) (ap (λ (x : OverFile). x.faults) J.memory.file)
+      (λ told state is.
+      (let L = J.leads w.history state is in
+      (L.0, subst (λ h. IsStateOf v.world h L.0) (sym (ap (λ (x : OverFile). x.history) J.memory.file)) L.1, gives_opener (law_opener who) refl refl L.2)))
 
 pub one_joined : (w v : Whole) (who : ℕ) → ((h : History) → JoinLeads w v h who) → HaveJoined w v 1
 one_joined w v who joins h state is =
@@ -101,14 +102,9 @@ gift_unheard who Stands.Idle logs = refl
 gift_unheard who Stands.Absent logs = (logs, refl, refl)
 gift_unheard who Stands.Busy logs = (logs, refl, refl)
 
-pub gift_taken : (w v : Whole) (who : ℕ) (command : Command) (standing : OpenerStanding) → PlayLedInAny w [] v (gift_lines who (Ok standing)) (Ok standing) (law_play (Plays.Give who command))
-    → TakenInAny w v (Plays.Give who command ∷ []) (Ok tt)
-gift_taken w v who command standing led =
-    one_taken w v (Plays.Give who command) (gift_lines who (Ok standing)) (gift_uncounted who standing) (gift_unheard who standing)
-    (λ h size W.
-    (let L = led true h size 0 W in (
-      L.header,
-      L.fits,
-      λ state is.
-          (let end = L.told refl state is in (end.0, end.1, subst (λ ls. Gives (form_at w) state (law_play (Plays.Give who command)) (law_lines ls) end.0) (sym L.lines) end.2)),
-    )))
+pub gift_taken : (t : Bool) (w v : OverFile) (who : ℕ) (command : Command) (standing : OpenerStanding) → v.spent ≡ false
+    → PlayLed t (moment_of w []) (moment_of v (gift_lines who (Ok standing))) (Ok standing) (law_play (Plays.Give who command)) → TakenUncounted t w v (Plays.Give who command ∷ []) (Ok tt)
+gift_taken t w v who command standing unspent led =
+    one_taken t w v (Plays.Give who command) (gift_lines who (Ok standing)) (gift_uncounted who standing) (gift_unheard who standing) led.header unspent led.quiet
+    (λ told state is.
+    (let end = led.told told state is in (end.0, end.1, subst (λ ls. Gives (form_at w.world) state (law_play (Plays.Give who command)) (law_lines ls) end.0) (sym led.lines) end.2)))

@@ -1,5 +1,5 @@
 -- The plays of generated commands, part by part.
-use Rattle.std.proofs.Common.{◌≡◌, ℕ, map, List, [], ◌∷◌, ◌++◌, refl, sym, ◌∙◌, ap, subst}
+use Rattle.std.proofs.Common.{◌≡◌, ℕ, Bool, map, List, [], ◌∷◌, ◌++◌, Result, Ok, Err, refl, sym, ◌∙◌, ap, subst}
 use Rattle.std.proofs.lemmas.List.{append-nil, map-append}
 use Rattle.std.proofs.lemmas.List.Concat.{flat_map-cons}
 use Rattle.tdb_space.specs.Form.{Form}
@@ -9,10 +9,12 @@ use Rattle.tdb_law.specs.World.{State}
 use Rattle.tdb_commands.specs.InLaw.{law_play, law_plays, law_line, law_lines}
 use Rattle.tdb_commands.specs.declared.line.Line.{Line}
 use Rattle.tdb_commands.specs.declared.play.Play.{Play}
-use Rattle.tdb_gen.specs.Plays.{joins, group_plays, together}
+use Rattle.tdb_gen.specs.declared.fault.GenFault.{GenFault}
+use Rattle.tdb_gen.specs.Plays.{joins, groups, group_list, group_plays, together}
 use Rattle.tdb_gen.specs.Rounds.{IsReady}
-use Rattle.tdb_gen.specs.Taking.{Parts}
+use Rattle.tdb_gen.specs.Taking.{AllTaken, HaveJoined, Parts, Place, Taken}
 use Rattle.tdb_gen.proofs.GoingOn.{parted, joins_done, groups_done}
+use Rattle.tdb_gen.proofs.Takings.{taken_join}
 
 -- lines whose words in the law are in two parts
 lines_parted : (lines : List Line) (front rest : List LawLine) → law_lines lines ≡ front ++ rest → (a : List Line) × (b : List Line) × (lines ≡ a ++ b) × (law_lines a ≡ front) × (law_lines b ≡ rest)
@@ -45,3 +47,10 @@ groups_parts f n seed (k ∷ ks) old new lines R C =
     let done = groups_done n seed k f old P.mid (law_lines q.0) R one in
     let others = groups_parts f n seed ks P.mid new q.1 done (subst (λ ls. Course f P.mid (law_plays rest) ls new) (sym q.4) P.second) in
     ((P.mid, q.0, q.1, q.2, one, done.idle, others.0), others.1)
+
+-- the groups behind the joins, as far as they came
+pub all_parts : (t : Bool) (n seed : ℕ) (old mid new : Place) → Taken t old mid joins (Ok tt) → HaveJoined old.over.world mid.over.world 3 → (answer : Result (Unit {0}) GenFault)
+    → Taken t mid new (together (group_list n seed (groups n))) answer → AllTaken t n seed old new answer
+all_parts t n seed old mid new J three (Ok v) T =
+    record { taken = taken_join t old mid new joins J (Ok v) (together (group_list n seed (groups n))) T; parts = record { mid = mid; joined = J; three = three; done = T } }
+all_parts t n seed old mid new J three (Err e) T = record { taken = taken_join t old mid new joins J (Err e) (together (group_list n seed (groups n))) T; parts = tt }

@@ -68,7 +68,7 @@ rests_join t p q r ps qs T A B tells state is =
     let a = A tells state is in
     let b = B tells state a.0 in
     let c = subst (λ g. (all : TookAll g q r qs state state) × AreIdle all.lines) (same_form t p q ps T) (b.1, b.2) in
-    (b.0, all_behind (form_at p.world) p q r ps qs state state a.1 state c.0, idle_append a.1.lines c.0.lines a.2 c.1)
+    (b.0, all_behind (form_at p.over.world) p q r ps qs state state a.1 state c.0, idle_append a.1.lines c.0.lines a.2 c.1)
 
 -- they may be taken again, so many times
 module _ (f : Form) (p q : Place) (state : State) where
@@ -88,9 +88,9 @@ taken_rest t old mid new n m low A B rests =
     subst (λ ps. Taken t old new ps (Ok tt)) (rounds_join n (1 + (m - n - 1)) ∙ ap rounds (let e : n + (1 + (m - n - 1)) ≡ m = omega (arith, low) in e))
     (taken_join t old mid new (rounds n) A (Ok tt) (rounds (1 + (m - n - 1))) (record {
       header = B.header;
-      fits = B.fits;
+      unspent = B.unspent;
       rises = B.rises;
       quiet = B.quiet;
-      told = λ tells state is. (let r = rests tells state is in (state, r.0, rest_rounds (form_at mid.world) mid new state r.1 r.2 (m - n - 1)));
+      told = λ tells state is. (let r = rests tells state is in (state, r.0, rest_rounds (form_at mid.over.world) mid new state r.1 r.2 (m - n - 1)));
       rose = λ tells state is. tt;
     }))

@@ -1,8 +1,7 @@
 -- Plays that are taken one after the other, what was counted of them, and what logs heard.
-use Rattle.std.proofs.Common.{◌≡◌, Bool, List, [], ◌++◌, Result, Ok, Err, refl, sym, ◌∙◌, ap, subst, inl, inr, arith, le_refl}
+use Rattle.std.proofs.Common.{◌≡◌, Bool, false, List, [], ◌++◌, Result, Ok, Err, refl, sym, ◌∙◌, ap, subst, inl, inr, arith, le_refl}
 use Rattle.std.proofs.lemmas.List.{append_assoc, append-nil, map-append}
 use Rattle.tdb_disk.specs.Count.{Rose}
-use Rattle.tdb_disk.specs.History.{seen}
 use Rattle.tdb_space.specs.Form.{Form, form_in}
 use Rattle.tdb_law.specs.Plays.{Course}
 use Rattle.tdb_law.specs.World.{State}
@@ -12,7 +11,7 @@ use Rattle.tdb_commands.specs.InLaw.{law_play, law_plays, law_line, law_lines}
 use Rattle.tdb_commands.specs.declared.line.Line.{Line}
 use Rattle.tdb_commands.specs.declared.play.Play.{Play}
 use Rattle.tdb_openers.specs.Played.{ComesTo}
-use Rattle.tdb_world.specs.Whole.{form_at, WorldFits}
+use Rattle.tdb_world.specs.Whole.{form_at}
 use Rattle.tdb_world.specs.Courses.Hearing.{Heard}
 use Rattle.tdb_world.proofs.Courses.HeardLines.{heard_joined, heard_then_refused}
 use Rattle.tdb_gen.specs.declared.fault.GenFault.{GenFault}
@@ -96,39 +95,39 @@ on_io_map (Err Log) g a = tt
 pub all_none : (f : Form) (p : Place) (state : State) → TookAll f p p [] state state
 all_none f p state = record { lines = []; course = (refl, refl); counted = λ told e. e ∙ ap counts_of (sym (append-nil told)); heard = refl }
 
-pub taken_none : (t : Bool) (p : Place) → WorldFits p.world (seen p.history) p.size → Taken t p p [] (Ok tt)
-taken_none t p W = record {
+pub taken_none : (t : Bool) (p : Place) → p.over.spent ≡ false → Taken t p p [] (Ok tt)
+taken_none t p unspent = record {
   header = refl;
-  fits = W;
-  rises = le_refl p.faults;
+  unspent = unspent;
+  rises = le_refl p.over.faults;
   quiet = refl;
-  told = λ tells start is. (start, is, all_none (form_at p.world) p start);
+  told = λ tells start is. (start, is, all_none (form_at p.over.world) p start);
   rose = λ tells start is. tt;
 }
 
 -- plays behind others, and others that weren't begun
-pub same_form : (t : Bool) (old mid : Place) (ps : List Play) → Taken t old mid ps (Ok tt) → form_at mid.world ≡ form_at old.world
+pub same_form : (t : Bool) (old mid : Place) (ps : List Play) → Taken t old mid ps (Ok tt) → form_at mid.over.world ≡ form_at old.over.world
 same_form t old mid ps A = ap form_in A.header
 
 module _ (t : Bool) (old mid new : Place) (ps : List Play) (A : Taken t old mid ps (Ok tt)) where
   pub taken_join : (answer : Result (Unit {0}) GenFault) (qs : List Play) → Taken t mid new qs answer → Taken t old new (ps ++ qs) answer
   taken_join answer qs B = record {
     header = unless_map answer (λ e. e ∙ A.header) B.header;
-    fits = B.fits;
+    unspent = B.unspent;
     rises = let one = A.rises in let two = B.rises in omega (arith, one, two);
     quiet = unless_map answer (λ e. e ∙ A.quiet) B.quiet;
     told = λ tells start is.
-        (let a = A.told tells start is in takes_behind (form_at old.world) old mid new ps qs start a.0 a.2 answer (subst (λ g. TakesTo g mid new qs a.0 answer) (same_form t old mid ps A) (B.told tells a.0 a.1)));
-    rose = λ tells start is. (let a = A.told tells start is in on_io_map answer (λ r. subst (λ n. Rose n new.faults) A.quiet r) (B.rose tells a.0 a.1));
+        (let a = A.told tells start is in takes_behind (form_at old.over.world) old mid new ps qs start a.0 a.2 answer (subst (λ g. TakesTo g mid new qs a.0 answer) (same_form t old mid ps A) (B.told tells a.0 a.1)));
+    rose = λ tells start is. (let a = A.told tells start is in on_io_map answer (λ r. subst (λ n. Rose n new.over.faults) A.quiet r) (B.rose tells a.0 a.1));
   }
 
 pub taken_more : (t : Bool) (old new : Place) (ps qs : List Play) (e : GenFault) → Taken t old new ps (Err e) → Taken t old new (ps ++ qs) (Err e)
 taken_more t old new ps qs e A = record {
   header = A.header;
-  fits = A.fits;
+  unspent = A.unspent;
   rises = A.rises;
   quiet = A.quiet;
-  told = λ tells start is. takes_more (form_at old.world) old new ps qs start e (A.told tells start is);
+  told = λ tells start is. takes_more (form_at old.over.world) old new ps qs start e (A.told tells start is);
   rose = A.rose;
 }
 
@@ -149,13 +148,13 @@ all_some f p q plays start last fault apart A = record {
 pub taken_short : (t : Bool) (old new : Place) (plays : List Play) → Taken t old new plays (Ok tt) → Taken t old new plays (Err Memory)
 taken_short t old new plays A = record {
   header = A.header;
-  fits = A.fits;
+  unspent = A.unspent;
   rises = A.rises;
   quiet = A.quiet;
-  told = λ tells start is. (let a = A.told tells start is in (a.0, a.1, all_some (form_at old.world) old new plays start a.0 Memory (λ e. cc) a.2));
+  told = λ tells start is. (let a = A.told tells start is in (a.0, a.1, all_some (form_at old.over.world) old new plays start a.0 Memory (λ e. cc) a.2));
   rose = λ tells start is. tt;
 }
 
 -- no play was begun, for want of memory
-pub taken_not : (t : Bool) (p : Place) (plays : List Play) → WorldFits p.world (seen p.history) p.size → Taken t p p plays (Err Memory)
-taken_not t p plays W = taken_more t p p [] plays Memory (taken_short t p p [] (taken_none t p W))
+pub taken_not : (t : Bool) (p : Place) (plays : List Play) → p.over.spent ≡ false → Taken t p p plays (Err Memory)
+taken_not t p plays unspent = taken_more t p p [] plays Memory (taken_short t p p [] (taken_none t p unspent))

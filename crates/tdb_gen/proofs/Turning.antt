@@ -1,7 +1,6 @@
 -- A turn that no report tells: what it leads to, and what is counted of it.
 use Rattle.std.proofs.Common.{◌≡◌, ℕ, Bool, true, false, List, [], ◌∷◌, ◌++◌, Option, None, Some, Result, Ok, Err, IfOk, refl, sym, ◌∙◌, ap, subst, inl, inr}
 use Rattle.std.specs.Prelude.{nat_lt, if◌then◌else◌}
-use Rattle.tdb_disk.specs.History.{History}
 use Rattle.tdb_locks.specs.declared.turn.Turn.{Turn}
 use Rattle.tdb_law.specs.Lines.{Line as LawLine}
 use Rattle.tdb_law.specs.Plays.{Play as LawPlay, Gives, Course}
@@ -18,8 +17,9 @@ use Rattle.tdb_space.specs.Form.{Form}
 use Rattle.tdb_openers.specs.Played.{Begun, ComesTo, PlaysLast, growth}
 use Rattle.tdb_openers.specs.declared.fault.RunFault.{RunFault}
 use Rattle.tdb_openers.proofs.Joining.Courses.{course_then, course_last}
-use Rattle.tdb_world.specs.Whole.{Whole, form_at}
-use Rattle.tdb_world.specs.Courses.Led.{moment}
+use Rattle.tdb_world.specs.Whole.{form_at}
+use Rattle.tdb_world.specs.OverFile.{OverFile, moment_of}
+use Rattle.tdb_world.specs.OverFiles.Plays.{is_io}
 use Rattle.tdb_world.specs.Courses.Unreported.{AreUndoing, TurnTells, Unreported}
 use Rattle.tdb_gen.specs.declared.counts.Counts.{Counts}
 use Rattle.tdb_gen.specs.Counts.{counts_of, counts_with}
@@ -53,18 +53,18 @@ turn_counted who (Some turn) lines before after (front, command, from, to, undoi
     ∙ ap (λ c. counts_with c (Took who command turn)) e
     ∙ sym (ap (λ ls. counts_of (told ++ ls)) is ∙ counts_tally told (front ++ Took who command turn ∷ growth from to) ∙ turn_tally (counts_of told) front who command turn from to undoing)
 
-module _ (t : Bool) (w v : Whole) (h k : History) (size longer faults more : ℕ) (before after : Counts) (logs later : List Logged) (who : ℕ) where
+module _ (t : Bool) (w v : OverFile) (before after : Counts) (logs later : List Logged) (who : ℕ) where
   abbrev Old : Place
-  Old = place w h size faults before logs
+  Old = place w before logs
 
   abbrev New : Place
-  New = place v k longer more after later
+  New = place v after later
 
   abbrev Told : Result (Result (Option Turn) LogRefusal) RunFault → Type 0
-  Told answer = Unreported t (moment w h size faults []) (moment v k longer more []) logs later who answer
+  Told answer = Unreported t (moment_of w []) (moment_of v []) logs later who answer
 
   abbrev f : Form
-  f = form_at w
+  f = form_at w.world
 
   abbrev play : LawPlay
   play = TakeTurn (law_opener who)
@@ -81,17 +81,17 @@ module _ (t : Bool) (w v : Whole) (h k : History) (size longer faults more : ℕ
   counted_so (Ok (Err refusal)) U C = tt
   counted_so (Err fault) U C = tt
 
-  pub turn_taken : (answer : Result (Result (Option Turn) LogRefusal) RunFault) → Told answer → IfOk (end_of answer) (λ turn. CountsTurn who turn before after)
+  pub turn_taken : (answer : Result (Result (Option Turn) LogRefusal) RunFault) → Told answer → IfOk (end_of answer) (λ turn. CountsTurn who turn before after) → v.spent ≡ is_io answer
       → Taken t Old New (Plays.Turn who ∷ []) (end_only (end_of answer))
-  turn_taken answer U C =
-      led_taken t w v h k size longer faults more U.lines before after logs later (Plays.Turn who ∷ []) (λ state _. Gives f state play) (λ state. Begun f state play) (λ state. PlaysLast f state play)
-      (λ state _. whole state) (λ state _ lines z G. part state lines z (inr G)) (λ state lines z B. part state lines z (inl B)) part answer (counted_so answer U C) U.led U.heard
+  turn_taken answer U C spent =
+      led_taken t w v U.lines before after logs later (Plays.Turn who ∷ []) (λ state _. Gives f state play) (λ state. Begun f state play) (λ state. PlaysLast f state play)
+      (λ state _. whole state) (λ state _ lines z G. part state lines z (inr G)) (λ state lines z B. part state lines z (inl B)) part answer (counted_so answer U C) U.led U.heard spent
 
   pub turn_rests : Told (Ok (Ok None)) → after ≡ before → Rests t Old New (Plays.Turn who ∷ [])
   turn_rests U same tells state is =
       let idle = none_idle who U.lines U.told in
       let end =
-      all_taken t w v h k size longer faults more U.lines before after logs later (Plays.Turn who ∷ []) (λ state _. Gives f state play) (λ state. Begun f state play) (λ state. PlaysLast f state play)
+      all_taken t w v U.lines before after logs later (Plays.Turn who ∷ []) (λ state _. Gives f state play) (λ state. Begun f state play) (λ state. PlaysLast f state play)
       (λ state _. whole state) (λ state _ lines z G. part state lines z (inr G)) (λ state lines z B. part state lines z (inl B)) part None U.led U.heard (turn_counted who None U.lines before after U.told same) tells state is in
       let stays = idle_stays f state end.0 (law_opener who) U.led.added (subst AreIdle U.led.lines idle) (U.led.told tells state is).2 in
       subst (λ z. IsStateAt New z × (all : TookAll f Old New (Plays.Turn who ∷ []) state z) × AreIdle all.lines) stays (end.1, end.2, idle)

@@ -1,7 +1,7 @@
 -- How plays are taken and counted, and what logs hear of them, as far as they come.
-use Rattle.std.specs.Prelude.{ℕ, ◌+◌, ◌≡◌, ◌≤◌, ◌⊎◌, Bool, IsTrue, List, [], ◌∷◌, ◌++◌, Result, Ok, Err}
+use Rattle.std.specs.Prelude.{ℕ, ◌+◌, ◌≡◌, ◌≤◌, ◌⊎◌, Bool, IsTrue, List, [], ◌∷◌, ◌++◌, Result, Ok, Err, OnOk, false}
 use Rattle.tdb_disk.specs.Count.{Rose}
-use Rattle.tdb_disk.specs.History.{History, seen}
+use Rattle.tdb_disk.specs.History.{History}
 use Rattle.tdb_space.specs.Form.{Form}
 use Rattle.tdb_law.specs.World.{State}
 use Rattle.tdb_law.specs.Plays.{Course}
@@ -15,13 +15,15 @@ use Rattle.tdb_commands.specs.declared.play.Play.{Play}
 use Rattle.tdb_openers.specs.declared.fault.RunFault.{RunFault}
 use Rattle.tdb_openers.specs.declared.fault.RunFault.TheVariants as Run
 use Rattle.tdb_openers.specs.Played.{ComesTo}
-use Rattle.tdb_world.specs.Whole.{Whole, form_at, WorldFits}
+use Rattle.tdb_world.specs.OverFile.{OverFile, HasState}
+use Rattle.tdb_world.specs.Whole.{Whole, form_at}
 use Rattle.tdb_world.specs.States.{IsStateOf}
 use Rattle.tdb_world.specs.Courses.Hearing.{Heard, HeardUpTo}
 use Rattle.tdb_gen.specs.declared.counts.Counts.{Counts}
 use Rattle.tdb_gen.specs.declared.fault.GenFault.{GenFault}
 use Rattle.tdb_gen.specs.declared.fault.GenFault.TheVariants.{Io, Memory, Log}
 use Rattle.tdb_gen.specs.Counts.{counts_of}
+use Rattle.tdb_gen.specs.Plays.{joins, groups, group_list, gen_plays, together}
 use Rattle.tdb_gen.specs.Rounds.{IsIdle}
 
 -- why plays broke off, as a generation tells it
@@ -71,22 +73,18 @@ HeardSo Io old lines new = Heard old lines new ⊎ ((refusal : LogRefusal) × He
 HeardSo Memory old lines new = Heard old lines new ⊎ ((refusal : LogRefusal) × HeardUpTo refusal old lines new)
 HeardSo Log old lines new = HeardUpTo Unheard.Failed old lines new
 
--- A place between plays: the world, the history and the length of its file, the count of faults of the disk, what was
--- counted, and the logs.
+-- A place between plays: the world with its disk, what was counted, and the logs.
 pub record Place : Type 0 where
-  pub world : Whole
-  pub history : History
-  pub size : ℕ
-  pub faults : ℕ
+  pub over : OverFile
   pub counts : Counts
   pub logs : List Logged
 
-abbrev pub place : Whole → History → ℕ → ℕ → Counts → List Logged → Place
-place world history size faults counts logs = record { world = world; history = history; size = size; faults = faults; counts = counts; logs = logs }
+abbrev pub place : OverFile → Counts → List Logged → Place
+place over counts logs = record { over = over; counts = counts; logs = logs }
 
 -- a state of the world at a place
 abbrev pub IsStateAt : Place → State → Type 0
-IsStateAt p state = IsStateOf p.world p.history state
+IsStateAt p state = HasState p.over state
 
 -- All plays were taken from one state to another between two places: their lines were counted behind others, and the
 -- logs heard of them.
@@ -113,25 +111,34 @@ TakesTo f old new plays start (Err Memory) = LeavesSome f old new plays Memory s
 TakesTo f old new plays start (Err Log) = LeavesSome f old new plays Log start
 
 -- Plays led from one place to another, and ended so, over a disk that tells its bytes or doesn't. What they did is said
--- from each state of the world.
+-- from each state of the world. Unless the disk failed the world isn't spent, and the count of faults is as it was.
 pub record Taken (tells : Bool) (old new : Place) (plays : List Play) (answer : Result (Unit {0}) GenFault) : Type 0 where
-  pub header : UnlessIo answer (new.world.openers.header ≡ old.world.openers.header)
-  pub fits : UnlessIo answer (WorldFits new.world (seen new.history) new.size)
-  pub rises : old.faults ≤ new.faults
-  pub quiet : UnlessIo answer (new.faults ≡ old.faults)
-  pub told : IsTrue tells → (start : State) → IsStateAt old start → TakesTo (form_at old.world) old new plays start answer
-  pub rose : IsTrue tells → (start : State) → IsStateAt old start → OnIo answer (Rose old.faults new.faults)
+  pub header : UnlessIo answer (new.over.world.openers.header ≡ old.over.world.openers.header)
+  pub unspent : UnlessIo answer (new.over.spent ≡ false)
+  pub rises : old.over.faults ≤ new.over.faults
+  pub quiet : UnlessIo answer (new.over.faults ≡ old.over.faults)
+  pub told : IsTrue tells → (start : State) → IsStateAt old start → TakesTo (form_at old.over.world) old new plays start answer
+  pub rose : IsTrue tells → (start : State) → IsStateAt old start → OnIo answer (Rose old.over.faults new.over.faults)
 
--- So it is over each file, with each count and all logs, where plays make no call on the disk, nothing is counted of
--- them, and no log hears of them.
-abbrev pub TakenInAny : Whole → Whole → List Play → Result (Unit {0}) GenFault → Type 0
-TakenInAny old new plays answer =
-    (tells : Bool) (h : History) (size faults : ℕ) (counts : Counts) (logs : List Logged) → WorldFits old (seen h) size
-    → Taken tells (place old h size faults counts logs) (place new h size faults counts logs) plays answer
+-- So it is with each count and all logs, where nothing is counted of plays, and no log hears of them.
+abbrev pub TakenUncounted : Bool → OverFile → OverFile → List Play → Result (Unit {0}) GenFault → Type 0
+TakenUncounted tells old new plays answer = (counts : Counts) (logs : List Logged) → Taken tells (place old counts logs) (place new counts logs) plays answer
 
 -- So many openers more have joined in a state of one world than in a state of another.
 abbrev pub HaveJoined : Whole → Whole → ℕ → Type 0
 HaveJoined old new count = (h : History) (state : State) → IsStateOf old h state → (after : State) × IsStateOf new h after × (after.joined ≡ state.joined + count)
+
+-- All plays of n commands were taken part by part: three openers joined, and then the groups were taken.
+pub record TakenInParts (tells : Bool) (n seed : ℕ) (old new : Place) : Type 0 where
+  pub mid : Place
+  pub joined : Taken tells old mid joins (Ok tt)
+  pub three : HaveJoined old.over.world mid.over.world 3
+  pub done : Taken tells mid new (together (group_list n seed (groups n))) (Ok tt)
+
+-- They were taken as far as they came; and part by part, where all of them were.
+pub record AllTaken (tells : Bool) (n seed : ℕ) (old new : Place) (answer : Result (Unit {0}) GenFault) : Type 0 where
+  pub taken : Taken tells old new (gen_plays n seed) answer
+  pub parts : OnOk answer (TakenInParts tells n seed old new)
 
 -- lines that only tell of openers with nothing to do
 abbrev pub AreIdle : List Line → Type 0
@@ -143,4 +150,4 @@ AreIdle (line ∷ lines) = ⊥
 -- Plays with only such lines lead from each state of the world to that state.
 abbrev pub Rests : Bool → Place → Place → List Play → Type 0
 Rests tells old new plays =
-    IsTrue tells → (state : State) → IsStateAt old state → IsStateAt new state × (all : TookAll (form_at old.world) old new plays state state) × AreIdle all.lines
+    IsTrue tells → (state : State) → IsStateAt old state → IsStateAt new state × (all : TookAll (form_at old.over.world) old new plays state state) × AreIdle all.lines

@@ -1,20 +1,15 @@
 // Generated commands that the openers of a world do, group by group.
 
-ghost use Rattle.std.specs.Prelude.{◌≡◌, ◌≢◌, ◌≤◌, ◌+◌, ◌*◌, [], ℕ, IsTrue, IfOk, IfErr, OnOk, length, min};
+ghost use Rattle.std.specs.Prelude.{◌≡◌, ◌≢◌, ◌≤◌, ◌+◌, ◌*◌, [], ℕ, IsTrue, IfOk, IfErr, OnOk, false, length, min};
 ghost use Rattle.tdb_disk.specs.Count.{HasCauseOf};
 ghost use Rattle.tdb_disk.specs.History.{seen};
 ghost use Rattle.tdb_space.specs.Form.{form_in};
 ghost use Rattle.tdb_space.specs.Accepted.{AcceptWith};
 ghost use Rattle.tdb_space.specs.Pairs.{order_of};
-ghost use Rattle.tdb_law.specs.World.{State};
-ghost use Rattle.tdb_commands.specs.declared.options.Options.{Options};
-ghost use Rattle.tdb_world.specs.Whole.{form_at, WorldFits};
-ghost use Rattle.tdb_world.specs.States.{IsStateOf};
 ghost use Rattle.tdb_gen.specs.Counts.{counts_of};
-ghost use Rattle.tdb_gen.specs.Generated.{IsFirst, GeneratedOver};
 ghost use Rattle.tdb_gen.specs.Numbers.{IsFrom};
-ghost use Rattle.tdb_gen.specs.Plays.{joins, groups, group_plays, group_list, together};
-ghost use Rattle.tdb_gen.specs.Taking.{place, Taken, UnlessIo};
+ghost use Rattle.tdb_gen.specs.Plays.{groups, group_plays, group_list, together};
+ghost use Rattle.tdb_gen.specs.Taking.{place, AllTaken, Taken, UnlessIo};
 ghost use Rattle.tdb_gen.specs.declared.fault.GenFault.TheVariants as Faults;
 
 use crate::counts::Counts;
@@ -55,46 +50,62 @@ impl Generation {
     /// Takes the plays of the next group, of so many commands in all.
     fn take_group<D: Disk, L: Logs>(
         &mut self,
-        world: &mut World,
-        disk: &mut D,
+        world: &mut World<D>,
         commands: u32,
         logs: &mut L,
     ) -> Result<(), GenFault>
         requires left { self.old.generator.index ≤ commands }
-        requires fits { WorldFits world.old (seen (D.history disk.old)) (D.size disk.old) }
+        requires unspent { world.old.spent ≡ false }
         ensures taken { (seed group : ℕ) → IsFrom seed self.old.generator → self.old.generator.index ≡ 3 * group
-            → Taken D.tells (place world.old (D.history disk.old) (D.size disk.old) (D.faults disk.old) self.old.counts (L.logs logs.old))
-            (place world.new (D.history disk.new) (D.size disk.new) (D.faults disk.new) self.new.counts (L.logs logs.new)) (group_plays commands seed group) result }
+            → Taken D.tells (place world.old self.old.counts (L.logs logs.old))
+            (place world.new self.new.counts (L.logs logs.new)) (group_plays commands seed group) result }
         ensures index { OnOk result (self.new.generator.index ≡ min commands (self.old.generator.index + 3)) }
         ensures from { OnOk result ((seed : ℕ) → IsFrom seed self.old.generator → IsFrom seed self.new.generator) }
     {
         give_group(self.alloc, &mut self.generator, commands, world)?;
-        take_rounds(world, disk, &mut self.counts, logs)
+        take_rounds(world, &mut self.counts, logs)
     }
 
     /// Takes the plays of all groups, of so many commands in all.
     fn take_groups<D: Disk, L: Logs>(
         &mut self,
-        world: &mut World,
-        disk: &mut D,
+        world: &mut World<D>,
         commands: u32,
         logs: &mut L,
     ) -> Result<(), GenFault>
         requires first { self.old.generator.index ≡ 0 }
         requires seed { (seed : ℕ) × IsFrom seed self.old.generator }
-        requires fits { WorldFits world.old (seen (D.history disk.old)) (D.size disk.old) }
+        requires unspent { world.old.spent ≡ false }
         ensures taken { (seed : ℕ) → IsFrom seed self.old.generator
-            → Taken D.tells (place world.old (D.history disk.old) (D.size disk.old) (D.faults disk.old) self.old.counts (L.logs logs.old))
-            (place world.new (D.history disk.new) (D.size disk.new) (D.faults disk.new) self.new.counts (L.logs logs.new)) (together (group_list commands seed (groups commands))) result }
+            → Taken D.tells (place world.old self.old.counts (L.logs logs.old))
+            (place world.new self.new.counts (L.logs logs.new)) (together (group_list commands seed (groups commands))) result }
     {
         for _ in 0..commands.div_ceil(OPENERS) {
-            self.take_group(world, disk, commands, logs)?;
+            self.take_group(world, commands, logs)?;
         }
         Ok(())
     }
 
+    /// Lets three openers join a world in which nobody has joined, and takes the plays of all groups, of so many
+    /// commands in all.
+    pub(crate) fn take_all<D: Disk, L: Logs>(
+        &mut self,
+        world: &mut World<D>,
+        commands: u32,
+        logs: &mut L,
+    ) -> Result<(), GenFault>
+        requires first { self.old.generator.index ≡ 0 }
+        requires seed { (seed : ℕ) × IsFrom seed self.old.generator }
+        requires unspent { world.old.spent ≡ false }
+        ensures taken { (seed : ℕ) → IsFrom seed self.old.generator
+            → AllTaken D.tells commands seed (place world.old self.old.counts (L.logs logs.old)) (place world.new self.new.counts (L.logs logs.new)) result }
+    {
+        join_openers(world)?;
+        self.take_groups(world, commands, logs)
+    }
+
     /// What is told of so many commands, which were all.
-    fn summary<D: Disk>(
+    pub(crate) fn summary<D: Disk>(
         &self,
         disk: &mut D,
         header: &Header,
@@ -119,34 +130,5 @@ impl Generation {
             live,
             length,
         })
-    }
-
-    /// Lets three openers join a world in which nobody has joined, takes all groups, and tells what came of so many
-    /// commands.
-    pub(crate) fn make<D: Disk, L: Logs>(
-        &mut self,
-        world: &mut World,
-        disk: &mut D,
-        header: &Header,
-        commands: u32,
-        logs: &mut L,
-    ) -> Result<Summary, GenFault>
-        requires header { world.old.openers.header ≡ header.now }
-        requires fits { WorldFits world.old (seen (D.history disk.old)) (D.size disk.old) }
-        requires first { self.old.generator.index ≡ 0 }
-        requires seed { (seed : ℕ) × IsFrom seed self.old.generator }
-        requires counts { self.old.counts ≡ counts_of [] }
-        ensures generated { IsTrue D.tells → (seed : ℕ) (options : Options) (first : State) → IsFrom seed self.old.generator → IsStateOf world.old (D.history disk.old) first
-            → IsFirst (form_at world.old) options (seen (D.history disk.old)) first
-            → GeneratedOver (form_at world.old) options (seen (D.history disk.old)) commands seed (seen (D.history disk.new)) (L.logs logs.old) (L.logs logs.new) result }
-        ensures size { IfOk result (λ s. s.length ≡ D.size disk.new) }
-        ensures cause { IsTrue D.tells → (options : Options) (first : State) → IsStateOf world.old (D.history disk.old) first → IsFirst (form_at world.old) options (seen (D.history disk.old)) first
-            → HasCauseOf Faults.Io (D.faults disk.old) (D.faults disk.new) result }
-        ensures rises { D.faults disk.old ≤ D.faults disk.new }
-        ensures quiet { UnlessIo result (D.faults disk.new ≡ D.faults disk.old) }
-    {
-        join_openers(world)?;
-        self.take_groups(world, disk, commands, logs)?;
-        self.summary(disk, header, commands)
     }
 }

@@ -1,24 +1,23 @@
 // The joins of the openers, and the gifts of a group's commands, of which no report tells.
 
-ghost use Rattle.std.specs.Prelude.{◌≡◌, ◌<◌, ◌≤◌, ◌∷◌, ◌+◌, ◌-◌, ◌^◌, [], ℕ, List, min, OnOk};
+ghost use Rattle.std.specs.Prelude.{◌≡◌, ◌<◌, ◌≤◌, ◌∷◌, ◌+◌, ◌-◌, ◌^◌, [], ℕ, false, min, OnOk};
 ghost use Rattle.tdb_commands.specs.declared.play.Play.TheVariants.{Join};
-ghost use Rattle.tdb_world.specs.Whole.{WorldFits};
 ghost use Rattle.tdb_gen.specs.Numbers.{IsFrom};
 ghost use Rattle.tdb_gen.specs.Plays.{joins, gift, gifts};
-ghost use Rattle.tdb_gen.specs.Taking.{HaveJoined, TakenInAny};
+ghost use Rattle.tdb_gen.specs.Taking.{HaveJoined, TakenUncounted};
 
 use crate::fault::GenFault;
 use crate::generator::{Generator, OPENERS};
 use std::alloc::Global;
-use tdb_world::{World, give_unreported};
+use tdb_disk::Disk;
+use tdb_world::World;
 
 /// The next opener joins. `Memory` where it is refused: while few have joined and nobody commits, only memory can be
 /// wanting.
-fn join(world: &mut World) -> Result<(), GenFault>
-    requires fits { (img : List ℕ) × (size : ℕ) × WorldFits world.old img size }
-    ensures taken { TakenInAny world.old world.new (Join ∷ []) result }
-    ensures joined { OnOk result (HaveJoined world.old world.new 1) }
-    ensures fits { (img : List ℕ) (size : ℕ) → WorldFits world.old img size → WorldFits world.new img size }
+fn join<D: Disk>(world: &mut World<D>) -> Result<(), GenFault>
+    requires unspent { world.old.spent ≡ false }
+    ensures taken { TakenUncounted D.tells world.old world.new (Join ∷ []) result }
+    ensures joined { OnOk result (HaveJoined world.old.world world.new.world 1) }
 {
     match world.join() {
         Ok(_) => Ok(()),
@@ -27,10 +26,10 @@ fn join(world: &mut World) -> Result<(), GenFault>
 }
 
 /// The three openers join, one after the other, as `join` says.
-pub(crate) fn join_openers(world: &mut World) -> Result<(), GenFault>
-    requires fits { (img : List ℕ) × (size : ℕ) × WorldFits world.old img size }
-    ensures taken { TakenInAny world.old world.new joins result }
-    ensures joined { OnOk result (HaveJoined world.old world.new 3) }
+pub(crate) fn join_openers<D: Disk>(world: &mut World<D>) -> Result<(), GenFault>
+    requires unspent { world.old.spent ≡ false }
+    ensures taken { TakenUncounted D.tells world.old world.new joins result }
+    ensures joined { OnOk result (HaveJoined world.old.world world.new.world 3) }
 {
     join(world)?;
     join(world)?;
@@ -38,31 +37,35 @@ pub(crate) fn join_openers(world: &mut World) -> Result<(), GenFault>
 }
 
 /// Gives the next command to its opener.
-fn give_next(alloc: Global, generator: &mut Generator, world: &mut World) -> Result<(), GenFault>
+fn give_next<D: Disk>(
+    alloc: Global,
+    generator: &mut Generator,
+    world: &mut World<D>,
+) -> Result<(), GenFault>
     requires few { generator.old.index < 2 ^ 32 - 1 }
-    requires fits { (img : List ℕ) × (size : ℕ) × WorldFits world.old img size }
-    ensures taken { (seed : ℕ) → IsFrom seed generator.old → TakenInAny world.old world.new (gift seed generator.old.index ∷ []) result }
-    ensures fits { (img : List ℕ) (size : ℕ) → WorldFits world.old img size → WorldFits world.new img size }
+    requires unspent { world.old.spent ≡ false }
+    ensures taken { (seed : ℕ) → IsFrom seed generator.old → TakenUncounted D.tells world.old world.new (gift seed generator.old.index ∷ []) result }
+    ensures unspent { world.new.spent ≡ false }
     ensures index { generator.new.index ≡ generator.old.index + 1 }
     ensures from { (seed : ℕ) → IsFrom seed generator.old → IsFrom seed generator.new }
 {
     let who = generator.owner();
     let command = generator.next_command(alloc)?;
-    give_unreported(world, who, command)?;
+    world.give_unreported(who, command)?;
     Ok(())
 }
 
 /// Gives the next commands, up to this index, each to its opener.
-fn give_up_to(
+fn give_up_to<D: Disk>(
     alloc: Global,
     generator: &mut Generator,
     end: u32,
-    world: &mut World,
+    world: &mut World<D>,
 ) -> Result<(), GenFault>
     requires left { generator.old.index ≤ end }
-    requires fits { (img : List ℕ) × (size : ℕ) × WorldFits world.old img size }
-    ensures taken { (seed : ℕ) → IsFrom seed generator.old → TakenInAny world.old world.new (gifts seed generator.old.index (end - generator.old.index)) result }
-    ensures fits { (img : List ℕ) (size : ℕ) → WorldFits world.old img size → WorldFits world.new img size }
+    requires unspent { world.old.spent ≡ false }
+    ensures taken { (seed : ℕ) → IsFrom seed generator.old → TakenUncounted D.tells world.old world.new (gifts seed generator.old.index (end - generator.old.index)) result }
+    ensures unspent { world.new.spent ≡ false }
     ensures index { OnOk result (generator.new.index ≡ end) }
     ensures from { OnOk result ((seed : ℕ) → IsFrom seed generator.old → IsFrom seed generator.new) }
 {
@@ -73,16 +76,16 @@ fn give_up_to(
 }
 
 /// Gives the commands of the next group, of so many commands in all, each to its opener.
-pub(crate) fn give_group(
+pub(crate) fn give_group<D: Disk>(
     alloc: Global,
     generator: &mut Generator,
     commands: u32,
-    world: &mut World,
+    world: &mut World<D>,
 ) -> Result<(), GenFault>
     requires left { generator.old.index ≤ commands }
-    requires fits { (img : List ℕ) × (size : ℕ) × WorldFits world.old img size }
-    ensures taken { (seed : ℕ) → IsFrom seed generator.old → TakenInAny world.old world.new (gifts seed generator.old.index (min 3 (commands - generator.old.index))) result }
-    ensures fits { (img : List ℕ) (size : ℕ) → WorldFits world.old img size → WorldFits world.new img size }
+    requires unspent { world.old.spent ≡ false }
+    ensures taken { (seed : ℕ) → IsFrom seed generator.old → TakenUncounted D.tells world.old world.new (gifts seed generator.old.index (min 3 (commands - generator.old.index))) result }
+    ensures unspent { world.new.spent ≡ false }
     ensures index { OnOk result (generator.new.index ≡ min commands (generator.old.index + 3)) }
     ensures from { OnOk result ((seed : ℕ) → IsFrom seed generator.old → IsFrom seed generator.new) }
 {

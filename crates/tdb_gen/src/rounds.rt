@@ -1,9 +1,7 @@
 // Rounds of turns of the openers.
 
 ghost use Rattle.std.specs.Prelude.{◌≡◌, ◌≤◌, ◌∷◌, [], false, IfOk};
-ghost use Rattle.tdb_disk.specs.History.{seen};
 ghost use Rattle.tdb_commands.specs.declared.play.Play.TheVariants.{Turn as TurnOf};
-ghost use Rattle.tdb_world.specs.Whole.{WorldFits};
 ghost use Rattle.tdb_gen.specs.Plays.{round, rounds};
 ghost use Rattle.tdb_gen.specs.Taking.{end_only, place, Rests, Taken};
 
@@ -11,7 +9,7 @@ use crate::counts::Counts;
 use crate::fault::GenFault;
 use tdb_disk::Disk;
 use tdb_log::Logs;
-use tdb_world::{World, turn_unreported};
+use tdb_world::World;
 
 /// How many rounds of turns a group has.
 const ROUNDS: u32 = 24;
@@ -19,20 +17,19 @@ const ROUNDS: u32 = 24;
 /// An opener takes a turn of its command, where it has one. The turn is counted, and the last log is told what became
 /// of the file. Whether the opener had a command.
 fn take_turn<D: Disk, L: Logs>(
-    world: &mut World,
-    disk: &mut D,
+    world: &mut World<D>,
     who: u32,
     counts: &mut Counts,
     logs: &mut L,
 ) -> Result<bool, GenFault>
     requires named { 1 ≤ who }
-    requires fits { WorldFits world.old (seen (D.history disk.old)) (D.size disk.old) }
-    ensures taken { Taken D.tells (place world.old (D.history disk.old) (D.size disk.old) (D.faults disk.old) counts.old (L.logs logs.old))
-        (place world.new (D.history disk.new) (D.size disk.new) (D.faults disk.new) counts.new (L.logs logs.new)) (TurnOf who ∷ []) (end_only result) }
-    ensures rests { IfOk result (λ busy. busy ≡ false → Rests D.tells (place world.old (D.history disk.old) (D.size disk.old) (D.faults disk.old) counts.old (L.logs logs.old))
-        (place world.new (D.history disk.new) (D.size disk.new) (D.faults disk.new) counts.new (L.logs logs.new)) (TurnOf who ∷ [])) }
+    requires unspent { world.old.spent ≡ false }
+    ensures taken { Taken D.tells (place world.old counts.old (L.logs logs.old))
+        (place world.new counts.new (L.logs logs.new)) (TurnOf who ∷ []) (end_only result) }
+    ensures rests { IfOk result (λ busy. busy ≡ false → Rests D.tells (place world.old counts.old (L.logs logs.old))
+        (place world.new counts.new (L.logs logs.new)) (TurnOf who ∷ [])) }
 {
-    let Some(turn) = turn_unreported(world, disk, who, logs)?? else {
+    let Some(turn) = world.turn_unreported(who, logs)?? else {
         return Ok(false);
     };
     counts.count_turn(&turn);
@@ -41,37 +38,35 @@ fn take_turn<D: Disk, L: Logs>(
 
 /// Each opener takes a turn, as `take_turn` says. Whether one of them had a command.
 fn take_round<D: Disk, L: Logs>(
-    world: &mut World,
-    disk: &mut D,
+    world: &mut World<D>,
     counts: &mut Counts,
     logs: &mut L,
 ) -> Result<bool, GenFault>
-    requires fits { WorldFits world.old (seen (D.history disk.old)) (D.size disk.old) }
-    ensures taken { Taken D.tells (place world.old (D.history disk.old) (D.size disk.old) (D.faults disk.old) counts.old (L.logs logs.old))
-        (place world.new (D.history disk.new) (D.size disk.new) (D.faults disk.new) counts.new (L.logs logs.new)) round (end_only result) }
-    ensures rests { IfOk result (λ busy. busy ≡ false → Rests D.tells (place world.old (D.history disk.old) (D.size disk.old) (D.faults disk.old) counts.old (L.logs logs.old))
-        (place world.new (D.history disk.new) (D.size disk.new) (D.faults disk.new) counts.new (L.logs logs.new)) round) }
+    requires unspent { world.old.spent ≡ false }
+    ensures taken { Taken D.tells (place world.old counts.old (L.logs logs.old))
+        (place world.new counts.new (L.logs logs.new)) round (end_only result) }
+    ensures rests { IfOk result (λ busy. busy ≡ false → Rests D.tells (place world.old counts.old (L.logs logs.old))
+        (place world.new counts.new (L.logs logs.new)) round) }
 {
-    let first = take_turn(world, disk, 1, counts, logs)?;
-    let second = take_turn(world, disk, 2, counts, logs)?;
-    let third = take_turn(world, disk, 3, counts, logs)?;
+    let first = take_turn(world, 1, counts, logs)?;
+    let second = take_turn(world, 2, counts, logs)?;
+    let third = take_turn(world, 3, counts, logs)?;
     Ok(first || second || third)
 }
 
 /// Takes the rounds of a group, up to the first in which nobody has a command: those behind it would change nothing,
 /// and there would be nothing to count in them.
 pub(crate) fn take_rounds<D: Disk, L: Logs>(
-    world: &mut World,
-    disk: &mut D,
+    world: &mut World<D>,
     counts: &mut Counts,
     logs: &mut L,
 ) -> Result<(), GenFault>
-    requires fits { WorldFits world.old (seen (D.history disk.old)) (D.size disk.old) }
-    ensures taken { Taken D.tells (place world.old (D.history disk.old) (D.size disk.old) (D.faults disk.old) counts.old (L.logs logs.old))
-        (place world.new (D.history disk.new) (D.size disk.new) (D.faults disk.new) counts.new (L.logs logs.new)) (rounds 24) result }
+    requires unspent { world.old.spent ≡ false }
+    ensures taken { Taken D.tells (place world.old counts.old (L.logs logs.old))
+        (place world.new counts.new (L.logs logs.new)) (rounds 24) result }
 {
     for _ in 0..ROUNDS {
-        if !take_round(world, disk, counts, logs)? {
+        if !take_round(world, counts, logs)? {
             return Ok(());
         }
     }

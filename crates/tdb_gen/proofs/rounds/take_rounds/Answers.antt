@@ -12,15 +12,13 @@ use Rattle.tdb_gen.proofs.rounds.take_rounds.Goals.{After-take_round}
 
 -- before all rounds, before the next one, and behind it
 abbrev first : (g : _) (c : After-take_round g) → Place
-first g c = place c.args.world.now (g.D.Disk.history c.args.disk.now) (g.D.Disk.size c.args.disk.now) (g.D.Disk.faults c.args.disk.now) c.args.counts.now (g.L.Logs.logs c.args.logs.now)
+first g c = place c.args.world.now c.args.counts.now (g.L.Logs.logs c.args.logs.now)
 
 abbrev mid : (g : _) (c : After-take_round g) → Place
-mid g c = place c.loop.world (g.D.Disk.history c.loop.disk) (g.D.Disk.size c.loop.disk) (g.D.Disk.faults c.loop.disk) c.loop.counts (g.L.Logs.logs c.loop.logs)
+mid g c = place c.loop.world c.loop.counts (g.L.Logs.logs c.loop.logs)
 
 abbrev last : (g : _) (c : After-take_round g) → Place
-last g c =
-    let now = c.take_round.new.disk in
-    place c.take_round.new.world (g.D.Disk.history now) (g.D.Disk.size now) (g.D.Disk.faults now) c.take_round.new.counts (g.L.Logs.logs c.take_round.new.logs)
+last g c = place c.take_round.new.world c.take_round.new.counts (g.L.Logs.logs c.take_round.new.logs)
 
 -- the rounds with it
 more : (g : _) (c : After-take_round g) (answer : Result (Unit {0}) GenFault) → Taken g.D.Disk.tells (mid g c) (last g c) round answer → Taken g.D.Disk.tells (first g c) (last g c) (rounds (c.loop.counter + 1)) answer
@@ -29,7 +27,7 @@ more g c answer T =
     (taken_join g.D.Disk.tells (first g c) (mid g c) (last g c) (rounds c.loop.counter) c.loop.invariant answer round T)
 
 pub loop-init : goal.loop-init
-loop-init g c = taken_none g.D.Disk.tells (place c.args.world.now (g.D.Disk.history c.args.disk.now) (g.D.Disk.size c.args.disk.now) (g.D.Disk.faults c.args.disk.now) c.args.counts.now (g.L.Logs.logs c.args.logs.now)) c.requires.fits
+loop-init g c = taken_none g.D.Disk.tells (place c.args.world.now c.args.counts.now (g.L.Logs.logs c.args.logs.now)) c.requires.unspent
 
 pub returns-in_err-take_round : goal.returns-in_err-take_round
 returns-in_err-take_round g c =
@@ -60,7 +58,7 @@ returns g c =
     let all : c.loop.counter ≡ 24 = omega (arith, least, most) in
     record {
       taken =
-          subst (λ n. Taken g.D.Disk.tells (place c.args.world.now (g.D.Disk.history c.args.disk.now) (g.D.Disk.size c.args.disk.now) (g.D.Disk.faults c.args.disk.now) c.args.counts.now (g.L.Logs.logs c.args.logs.now))
-          (place c.loop.world (g.D.Disk.history c.loop.disk) (g.D.Disk.size c.loop.disk) (g.D.Disk.faults c.loop.disk) c.loop.counts (g.L.Logs.logs c.loop.logs)) (rounds n) (Ok tt))
+          subst (λ n. Taken g.D.Disk.tells (place c.args.world.now c.args.counts.now (g.L.Logs.logs c.args.logs.now))
+          (place c.loop.world c.loop.counts (g.L.Logs.logs c.loop.logs)) (rounds n) (Ok tt))
           all c.loop.invariant;
     }

@@ -11,15 +11,13 @@ use Rattle.tdb_gen.proofs.generation.Generation.take_groups.Goals.{After-take_gr
 
 -- before all groups, before the next one, and behind it
 abbrev first : (g : _) (c : After-take_group g) → Place
-first g c = place c.args.world.now (g.D.Disk.history c.args.disk.now) (g.D.Disk.size c.args.disk.now) (g.D.Disk.faults c.args.disk.now) c.args.self.now.counts (g.L.Logs.logs c.args.logs.now)
+first g c = place c.args.world.now c.args.self.now.counts (g.L.Logs.logs c.args.logs.now)
 
 abbrev mid : (g : _) (c : After-take_group g) → Place
-mid g c = place c.loop.world (g.D.Disk.history c.loop.disk) (g.D.Disk.size c.loop.disk) (g.D.Disk.faults c.loop.disk) c.loop.self.counts (g.L.Logs.logs c.loop.logs)
+mid g c = place c.loop.world c.loop.self.counts (g.L.Logs.logs c.loop.logs)
 
 abbrev last : (g : _) (c : After-take_group g) → Place
-last g c =
-    let now = c.take_group.new.disk in
-    place c.take_group.new.world (g.D.Disk.history now) (g.D.Disk.size now) (g.D.Disk.faults now) c.take_group.new.self.counts (g.L.Logs.logs c.take_group.new.logs)
+last g c = place c.take_group.new.world c.take_group.new.self.counts (g.L.Logs.logs c.take_group.new.logs)
 
 -- there is a next group, and it begins at the next command
 inside : (g : _) (c : After-take_group g) → c.loop.counter < c.args.commands / 3 + min 1 (c.args.commands % 3)
@@ -37,13 +35,13 @@ more g c seed from =
 
 pub loop-init : goal.loop-init
 loop-init g c = record {
-  taken = λ seed from. taken_none g.D.Disk.tells (place c.args.world.now (g.D.Disk.history c.args.disk.now) (g.D.Disk.size c.args.disk.now) (g.D.Disk.faults c.args.disk.now) c.args.self.now.counts (g.L.Logs.logs c.args.logs.now)) c.requires.fits;
+  taken = λ seed from. taken_none g.D.Disk.tells (place c.args.world.now c.args.self.now.counts (g.L.Logs.logs c.args.logs.now)) c.requires.unspent;
   index = (let none = c.requires.first in omega (arith, none));
   from = λ seed from. from;
 }
 
-pub take_group-requires-clause-fits : goal.take_group-requires-clause-fits
-take_group-requires-clause-fits g c = (c.loop.invariant.taken c.requires.seed.0 c.requires.seed.1).fits
+pub take_group-requires-clause-unspent : goal.take_group-requires-clause-unspent
+take_group-requires-clause-unspent g c = (c.loop.invariant.taken c.requires.seed.0 c.requires.seed.1).unspent
 
 pub returns-in_err-take_group : goal.returns-in_err-take_group
 returns-in_err-take_group g c = record {
@@ -76,7 +74,7 @@ returns g c = record {
       let least = c.loop-test.false in
       let most = c.loop.auto.counter-end in
       let all : c.loop.counter ≡ groups c.args.commands = omega (arith, up, end, least, most) in
-      subst (λ n. Taken g.D.Disk.tells (place c.args.world.now (g.D.Disk.history c.args.disk.now) (g.D.Disk.size c.args.disk.now) (g.D.Disk.faults c.args.disk.now) c.args.self.now.counts (g.L.Logs.logs c.args.logs.now))
-      (place c.loop.world (g.D.Disk.history c.loop.disk) (g.D.Disk.size c.loop.disk) (g.D.Disk.faults c.loop.disk) c.loop.self.counts (g.L.Logs.logs c.loop.logs)) (together (group_list c.args.commands seed n)) (Ok tt))
+      subst (λ n. Taken g.D.Disk.tells (place c.args.world.now c.args.self.now.counts (g.L.Logs.logs c.args.logs.now))
+      (place c.loop.world c.loop.self.counts (g.L.Logs.logs c.loop.logs)) (together (group_list c.args.commands seed n)) (Ok tt))
       all (c.loop.invariant.taken seed from));
 }
