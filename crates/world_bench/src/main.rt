@@ -3,8 +3,6 @@
 #![tactic(auto)]
 
 ghost use Rattle.std.specs.Prelude.{◌≡◌, List, ℕ, false, IfOk, OnOk};
-ghost use Rattle.tdb_disk.specs.History.{seen};
-ghost use Rattle.tdb_world.specs.Whole.{WorldFits};
 ghost use Rattle.tdb_world.specs.Courses.Playable.{IsPlayable};
 
 use anyhow::{Context, bail};
@@ -14,12 +12,12 @@ use std::time::Instant;
 use tdb_commands::{Command, Options, Play, TurnReport};
 use tdb_disk::{Disk, Files, MemFiles, Take};
 use tdb_files::DirFiles;
-use tdb_gen::generate;
+use tdb_gen::{GenFault, Summary, generate};
 use tdb_log::Log;
-use tdb_open::{NewForm, Opened, make};
+use tdb_open::NewForm;
 use tdb_steps::Flag;
 use tdb_words::{Bytes, HashKind, Order};
-use tdb_world::{World, create, run};
+use tdb_world::World;
 
 /// The file.
 const NAME: &str = "world_bench.tdb";
@@ -54,19 +52,14 @@ fn store(alloc: Global, number: u32) -> Result<Play, AllocError>
 }
 
 /// Lets one opener store so many values.
-fn take_stores<D: Disk>(
-    alloc: Global,
-    world: &mut World,
-    disk: &mut D,
-    count: u32,
-) -> anyhow::Result<()>
-    requires fits { WorldFits world.old (seen (D.history disk.old)) (D.size disk.old) }
+fn take_stores<D: Disk>(alloc: Global, world: &mut World<D>, count: u32) -> anyhow::Result<()>
+    requires unspent { world.old.spent ≡ false }
 {
     let mut report = TurnReport::new(alloc);
     let mut logs: Vec<Box<dyn Log>> = Vec::new(alloc);
     for number in 0..count {
         let plays = [store(alloc, number)?];
-        let told = run(world, disk, &plays, &mut report, &mut logs)?;
+        let told = world.run(&plays, &mut report, &mut logs)?;
         told?;
         report.clear();
     }
@@ -74,45 +67,38 @@ fn take_stores<D: Disk>(
 }
 
 /// Lets one opener join a world and store so many values.
-fn join_and_store<D: Disk>(
-    alloc: Global,
-    world: &mut World,
-    disk: &mut D,
-    count: u32,
-) -> anyhow::Result<()>
-    requires fits { WorldFits world.old (seen (D.history disk.old)) (D.size disk.old) }
+fn join_and_store<D: Disk>(alloc: Global, world: &mut World<D>, count: u32) -> anyhow::Result<()>
+    requires unspent { world.old.spent ≡ false }
 {
     let Ok(1) = world.join() else {
         bail!("nobody joined");
     };
-    take_stores(alloc, world, disk, count)
+    take_stores(alloc, world, count)
 }
 
-/// Lets one opener join and store so many values in a new file on an empty disk, and tells how long that is then.
-fn store_all<D: Disk>(alloc: Global, disk: &mut D, count: u32) -> anyhow::Result<u64> {
-    if disk.len()? != 0 {
-        bail!("the file isn't empty");
-    }
-    let mut world = create(alloc, disk, FORM, &OPTIONS)?;
-    let stored = join_and_store(alloc, &mut world, disk, count);
-    world.end();
-    stored?;
-    Ok(disk.len()?)
+/// How many stores there were, and how long the file is behind them.
+fn stored<D: Disk>(alloc: Global, count: u32, disk: &mut D) -> anyhow::Result<Bytes> {
+    let length = disk.len()?;
+    let text = format!(in alloc; "stores {count}\nlength {length}\n")?;
+    Ok(Bytes::copy(alloc, text.as_bytes())?)
 }
 
-/// Does so many generated commands in a new file on an empty disk, and tells what came of them.
-fn generate_all<D: Disk>(alloc: Global, disk: &mut D, count: u32) -> anyhow::Result<Bytes> {
-    if disk.len()? != 0 {
-        bail!("the file isn't empty");
-    }
-    make(disk, FORM)?;
-    let mut logs: Vec<Box<dyn Log>> = Vec::new(alloc);
-    let opened = Opened::open(alloc, disk, &mut logs)?;
-    if opened.len > OPTIONS.limit {
-        bail!("the file is too long");
-    }
-    let summary = generate(alloc, disk, &opened.header, &OPTIONS, count, 1, &mut logs)?;
-    Ok(summary.text(alloc)?)
+/// Lets one opener join and store so many values, and tells how long the file is then. The disk comes back.
+fn store_all<D: Disk>(alloc: Global, mut world: World<D>, count: u32) -> (D, anyhow::Result<Bytes>)
+    requires unspent { world.spent ≡ false }
+{
+    let done = join_and_store(alloc, &mut world, count);
+    let mut disk = world.close();
+    let told = match done {
+        Ok(()) => stored(alloc, count, &mut disk),
+        Err(error) => Err(error),
+    };
+    (disk, told)
+}
+
+/// The text of the summary of generated commands.
+fn generated(alloc: Global, made: Result<Summary, GenFault>) -> anyhow::Result<Bytes> {
+    Ok(made?.text(alloc)?)
 }
 
 /// What is done over a new file.
@@ -126,15 +112,21 @@ enum Work {
 }
 
 impl Work {
-    /// Does it over a disk, and tells what came of it.
-    fn on<D: Disk>(self, alloc: Global, disk: &mut D) -> anyhow::Result<Bytes> {
+    /// Does it in a new file on an empty disk, and tells what came of it. The disk comes back.
+    fn on<D: Disk>(self, alloc: Global, disk: D) -> (D, anyhow::Result<Bytes>)
+        requires empty { D.size disk ≡ 0 }
+    {
+        let world = match World::create(alloc, disk, FORM, &OPTIONS) {
+            Ok(world) => world,
+            Err((disk, refusal)) => return (disk, Err(anyhow::Error::from(refusal))),
+        };
         match self {
-            Work::Generated(count) => generate_all(alloc, disk, count),
-            Work::Stores(count) => {
-                let length = store_all(alloc, disk, count)?;
-                let text = format!(in alloc; "stores {count}\nlength {length}\n")?;
-                Ok(Bytes::copy(alloc, text.as_bytes())?)
+            Work::Generated(count) => {
+                let mut logs: Vec<Box<dyn Log>> = Vec::new(alloc);
+                let (disk, made) = generate(alloc, world, &FORM.header(), count, 1, &mut logs);
+                (disk, generated(alloc, made))
             }
+            Work::Stores(count) => store_all(alloc, world, count),
         }
     }
 }
@@ -147,8 +139,8 @@ fn measure<F: Files>(rt: HostRuntime, files: &mut F, work: Work, timed: bool) ->
 {
     let alloc = rt.alloc();
     let start = Instant::now(&rt)?;
-    let mut disk = files.take(alloc, NAME, Take::New).ok().context("no file")?;
-    let told = work.on(alloc, &mut disk);
+    let disk = files.take(alloc, NAME, Take::New).ok().context("no file")?;
+    let (disk, told) = work.on(alloc, disk);
     files.give(NAME, disk);
     let taken = start.elapsed(&rt)?;
     files.remove(NAME).ok().context("the file isn't removed")?;

@@ -8,9 +8,9 @@ use tdb_commands::Options;
 use tdb_disk::{Disk, MemDisk};
 use tdb_gen::{Summary, generate};
 use tdb_log::Log;
-use tdb_open::Opened;
 use tdb_space::Direct;
 use tdb_words::{HashKind, Header, Order, header_bytes};
+use tdb_world::World;
 
 const HEADER: Header = Header {
     order: Order::Little,
@@ -47,23 +47,16 @@ fn new_file(alloc: Global) -> Result<MemDisk, AllocError> {
     MemDisk::new(alloc, &bytes)
 }
 
-/// Generates commands on a file, where that is whole.
-fn load<D: Disk>(alloc: Global, disk: &mut D, commands: u32, seed: u32) -> Option<Summary> {
+/// Generates commands on a file, where that is whole, and gives the disk back.
+fn load<D: Disk>(alloc: Global, disk: D, commands: u32, seed: u32) -> (D, Option<Summary>) {
     let mut logs: Vec<Box<dyn Log>> = Vec::new(alloc);
-    let opened = Opened::open(alloc, disk, &mut logs).ok()?;
-    if opened.len > OPTIONS.limit {
-        return None;
+    match World::load(alloc, disk, &OPTIONS, &mut logs) {
+        Ok((world, opened)) => {
+            let (disk, made) = generate(alloc, world, &opened.header, commands, seed, &mut logs);
+            (disk, made.ok())
+        }
+        Err((disk, _)) => (disk, None),
     }
-    generate(
-        alloc,
-        disk,
-        &opened.header,
-        &OPTIONS,
-        commands,
-        seed,
-        &mut logs,
-    )
-    .ok()
 }
 
 /// How many keys a check counts.
@@ -81,10 +74,9 @@ static LOADS: [(&'static str, u32, u32, &'static [u8]); 2] = [
 
 /// Whether commands on a new file have this summary.
 fn load_holds(alloc: Global, commands: u32, seed: u32, text: &[u8]) -> Result<bool, AllocError> {
-    let mut file = new_file(alloc)?;
-    Ok(match load(alloc, &mut file, commands, seed) {
-        Some(summary) => summary.text(alloc)?.as_slice() == text,
-        None => false,
+    Ok(match load(alloc, new_file(alloc)?, commands, seed) {
+        (_, Some(summary)) => summary.text(alloc)?.as_slice() == text,
+        (_, None) => false,
     })
 }
 
@@ -100,10 +92,8 @@ fn failing_load(alloc: Global) -> Result<Option<&'static str>, AllocError> {
 
 /// What is otherwise where ten thousand commands are done twice.
 fn failing_second(alloc: Global) -> Result<Option<&'static str>, AllocError> {
-    let mut first = new_file(alloc)?;
-    let mut other = new_file(alloc)?;
-    let summary = load(alloc, &mut first, 10_000, 1);
-    let again = load(alloc, &mut other, 10_000, 1);
+    let (mut first, summary) = load(alloc, new_file(alloc)?, 10_000, 1);
+    let (other, again) = load(alloc, new_file(alloc)?, 10_000, 1);
     let is_same = summary == again;
     let commands = summary.as_ref().map(|s| s.commands);
     let keys = summary.map(|s| s.live);

@@ -7,7 +7,7 @@ use tdb_log::{Log, Logs, MemLog};
 use tdb_openers::Options;
 use tdb_tool::{SessionEnd, SessionFault, run_session};
 use tdb_words::{HashKind, Order, header_bytes};
-use tdb_world::load;
+use tdb_world::World;
 
 const OPTIONS: Options = Options {
     limit: 4294963200,
@@ -28,19 +28,22 @@ fn new_file(alloc: Global) -> Result<MemDisk, AllocError> {
     MemDisk::new(alloc, &bytes)
 }
 
-/// How a session over a file ends, where that is opened, which the logs aren't told.
+/// How a session over a file ends, where that is opened, which the logs aren't told. The disk comes back.
 fn session<D: Disk, S: Source, K: Sink, L: Logs>(
     alloc: Global,
-    disk: &mut D,
+    disk: D,
     input: &mut S,
     output: &mut K,
     logs: &mut L,
-) -> Option<Result<SessionEnd, SessionFault>> {
+) -> (D, Option<Result<SessionEnd, SessionFault>>) {
     let mut none: Vec<Box<dyn Log>> = Vec::new(alloc);
-    let Ok((world, _)) = load(alloc, disk, &OPTIONS, &mut none) else {
-        return None;
-    };
-    Some(run_session(alloc, world, disk, input, output, logs))
+    match World::load(alloc, disk, &OPTIONS, &mut none) {
+        Ok((world, _)) => {
+            let (disk, answer) = run_session(alloc, world, input, output, logs);
+            (disk, Some(answer))
+        }
+        Err((disk, _)) => (disk, None),
+    }
 }
 
 /// What is typed, what is printed, and how the session ends.
@@ -165,10 +168,10 @@ static SESSIONS: [(&'static str, Session); 16] = [
 fn session_holds(alloc: Global, row: &Session) -> Result<bool, AllocError> {
     let (text, printed, end) = *row;
     let mut logs: Vec<Box<dyn Log>> = Vec::new(alloc);
-    let mut file = new_file(alloc)?;
+    let file = new_file(alloc)?;
     let mut input = MemSource::new(alloc, text.as_bytes())?;
     let mut output = MemSink::new(alloc);
-    let answer = session(alloc, &mut file, &mut input, &mut output, &mut logs);
+    let (_, answer) = session(alloc, file, &mut input, &mut output, &mut logs);
     Ok(answer == Some(Ok(end)) && output.as_slice() == printed.as_bytes())
 }
 
@@ -263,7 +266,7 @@ fn fault_holds(alloc: Global, row: &Fault) -> Result<bool, AllocError> {
         Failing::Output(nth) => output.fail(Call::Write, nth)?,
         Failing::Growth(nth) => file.fail(Call::Grow, nth)?,
     }
-    let answer = session(alloc, &mut file, &mut input, &mut output, &mut logs);
+    let (_, answer) = session(alloc, file, &mut input, &mut output, &mut logs);
     Ok(answer == Some(Err(fault)) && output.as_slice() == printed.as_bytes())
 }
 
@@ -303,7 +306,8 @@ fn failing_log(alloc: Global) -> Result<Option<&'static str>, AllocError> {
     for (name, (text, printed, end)) in &LOGGED {
         let mut input = MemSource::new(alloc, text.as_bytes())?;
         let mut output = MemSink::new(alloc);
-        let answer = session(alloc, &mut file, &mut input, &mut output, &mut logs);
+        let (given, answer) = session(alloc, file, &mut input, &mut output, &mut logs);
+        file = given;
         if answer != Some(*end) || output.as_slice() != printed.as_bytes() {
             return Ok(Some(*name));
         }

@@ -1,6 +1,7 @@
-use Rattle.tdb_disk.specs.History.{seen}
+use Rattle.std.proofs.Common.{◌∙◌, ap}
+use Rattle.tdb_world.specs.OverFile.{OverFile}
 use Rattle.world_bench.proofs.join_and_store.Goals as goal
 
--- what fits a world fits it after a join
+-- a join spends nothing
 pub take_stores-requires : goal.take_stores-requires
-take_stores-requires g c = record { fits = c.join.ensures.fits (seen (g.D.Disk.history c.args.disk.now)) (g.D.Disk.size c.args.disk.now) c.requires.fits }
+take_stores-requires g c = record { unspent = ap (λ (w : OverFile). w.spent) c.in-Ok-eq1.ensures.joined.memory.file ∙ c.requires.unspent }

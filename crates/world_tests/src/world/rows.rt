@@ -45,6 +45,11 @@ const LOGGED: Row = Row {
     ..PLAIN
 };
 
+/// How often the opening of a new file reads, and how often it asks for the length. It doesn't write.
+const OPENING_READS: u64 = 6;
+
+const OPENING_LENGTHS: u64 = 5;
+
 const STORE: &str = "open\ndo 1 store a 1\n";
 
 const GREW: Notice = Notice::Grew {
@@ -144,8 +149,8 @@ pub(crate) static ROWS: [Row; 17] = [
         ..PLAIN
     },
     Row {
-        what: "the first read fails, in the second turn of a store",
-        failing: Failing::Disk(Call::Read, 0),
+        what: "the first read behind the opening fails, in the second turn of a store",
+        failing: Failing::Disk(Call::Read, OPENING_READS),
         told: "1 open\n1 step\n",
         ..FAILS
     },
@@ -157,7 +162,7 @@ pub(crate) static ROWS: [Row; 17] = [
     },
     Row {
         what: "the length can't be had before the third turn of a store",
-        failing: Failing::Disk(Call::Len, 5),
+        failing: Failing::Disk(Call::Len, OPENING_LENGTHS + 5),
         told: "1 open\n1 step\n1 step\n",
         ..FAILS
     },

@@ -6,7 +6,6 @@ use std::alloc::{AllocError, Global};
 use tdb_commands::TurnReport;
 use tdb_disk::{Disk, FuseDisk, MemDisk, MemSink, Pick};
 use tdb_log::Log;
-use tdb_open::Opened;
 
 const COMMIT: &[u8] = b"open\ndo 1 start\ndo 1 store a 9\ndo 1 commit\n";
 
@@ -26,36 +25,28 @@ struct Stopped {
     committed: bool,
 }
 
-/// What the plays of a script tell over the file on a disk.
-fn told<D: Disk>(alloc: Global, disk: &mut D, script: &[u8]) -> Option<MemSink> {
+/// What the plays of a script tell over the file on a disk, and what they leave on it.
+fn told<D: Disk>(alloc: Global, disk: D, script: &[u8]) -> (D, Option<MemSink>) {
     let mut logs: Vec<Box<dyn Log>> = Vec::new(alloc);
     let mut report = TurnReport::new(alloc);
-    let _ended = take_script(alloc, disk, &OPTIONS, script, &mut report, &mut logs);
-    text_of(alloc, &report).ok()
+    let (disk, _ended) = take_script(alloc, disk, &OPTIONS, script, &mut report, &mut logs);
+    (disk, text_of(alloc, &report).ok())
 }
 
 /// Commits the value `9` over a disk that passes `k` calls.
 fn commit_through(alloc: Global, k: u64) -> Result<Stopped, AllocError> {
-    let mut fuse = FuseDisk::new(disk_of(alloc, &ONE)?, k);
-    let text = told(alloc, &mut fuse, COMMIT);
+    let (fuse, text) = told(alloc, FuseDisk::new(disk_of(alloc, &ONE)?, k), COMMIT);
     Ok(Stopped {
         disk: fuse.inner(),
         committed: text.is_some_and(|text| text.as_slice() == COMMITTED),
     })
 }
 
-/// What a fetch of `a` tells in a new world over a file that is opened.
-fn fetched(alloc: Global, disk: MemDisk) -> Option<MemSink> {
-    let mut disk = disk;
-    let mut logs: Vec<Box<dyn Log>> = Vec::new(alloc);
-    Opened::open(alloc, &mut disk, &mut logs).ok()?;
-    told(alloc, &mut disk, FETCH)
-}
-
 /// Whether each stop leaves a file that has the old value or the new one, and the new one where the commit was done.
 fn leaves_one(alloc: Global, stopped: &Stopped) -> Result<bool, AllocError> {
     for pick in [Pick::Synced, Pick::Read, Pick::Torn] {
-        let Some(text) = fetched(alloc, stopped.disk.after_stop(alloc, pick)?) else {
+        let (_disk, told) = told(alloc, stopped.disk.after_stop(alloc, pick)?, FETCH);
+        let Some(text) = told else {
             return Ok(false);
         };
         let text = text.as_slice();

@@ -74,14 +74,7 @@ fn holds(alloc: Global, row: &Row) -> Result<bool, AllocError> {
     }
     let mut report = TurnReport::new(alloc);
     let script = row.script.as_bytes();
-    let ends = take_script(
-        alloc,
-        &mut disk,
-        &row.options,
-        script,
-        &mut report,
-        &mut logs,
-    );
+    let (disk, ends) = take_script(alloc, disk, &row.options, script, &mut report, &mut logs);
     let Ok(text) = text_of(alloc, &report) else {
         return Ok(false);
     };

@@ -1,17 +1,16 @@
-// Plays in a new world over a file, and the text of their report.
+// Plays in a world over a file, and the text of their report.
 
-ghost use Rattle.std.specs.Prelude.{◌≤◌, IsTrue};
+ghost use Rattle.std.specs.Prelude.{IsTrue};
 ghost use Rattle.tdb_world.specs.Courses.Playable.{ArePlayable, IsPlayable};
 ghost use Rattle.tdb_commands.specs.Short.{IsShortCommand};
 
-use small_file::HEADER;
 use std::alloc::Global;
 use tdb_commands::{Command, Options, Play, TurnReport};
 use tdb_disk::{Disk, MemSink};
 use tdb_dump::WriteRefusal;
-use tdb_log::{LogRefusal, Logs};
+use tdb_log::{Log, LogRefusal, Logs};
 use tdb_script::{read_script, write_line};
-use tdb_world::{RunFault, World, run};
+use tdb_world::{RunFault, World};
 
 /// How long a file may be in bytes.
 const LONGEST_FILE: u64 = 4_294_963_200;
@@ -65,45 +64,30 @@ fn are_playable(plays: &[Play]) -> bool
     true
 }
 
-/// Takes plays in a new world over the file on a disk.
-fn take_plays<D: Disk, L: Logs>(
-    alloc: Global,
-    disk: &mut D,
-    options: &Options,
-    plays: &[Play],
-    report: &mut TurnReport,
-    logs: &mut L,
-) -> Result<Result<(), LogRefusal>, RunFault>
-    requires limit { options.now.limit ≤ 4294963200 }
-    requires short { D.size disk.old ≤ options.now.limit }
-    requires playable { ArePlayable plays.now }
-{
-    let mut world = World::new(alloc, &HEADER, options);
-    let answer = run(&mut world, disk, plays, report, logs);
-    world.end();
-    answer
-}
-
-/// Takes the plays of a script in a new world over the file on a disk. `Memory` where it is no script of short plays,
-/// or the file is longer than it may be.
+/// Takes the plays of a script over the file on a disk, whose opening the logs aren't told, and gives the disk back.
+/// `Memory` where it is no script of short plays, and `Io` where the file isn't opened.
 pub(crate) fn take_script<D: Disk, L: Logs>(
     alloc: Global,
-    disk: &mut D,
+    disk: D,
     options: &Options,
     script: &[u8],
     report: &mut TurnReport,
     logs: &mut L,
-) -> Result<Result<(), LogRefusal>, RunFault> {
+) -> (D, Result<Result<(), LogRefusal>, RunFault>) {
     let Ok(plays) = read_script(alloc, script) else {
-        return Err(RunFault::Memory);
+        return (disk, Err(RunFault::Memory));
     };
-    let Ok(len) = disk.len() else {
-        return Err(RunFault::Io);
-    };
-    if options.limit > LONGEST_FILE || len > options.limit || !are_playable(plays.as_slice()) {
-        return Err(RunFault::Memory);
+    if options.limit > LONGEST_FILE || !are_playable(plays.as_slice()) {
+        return (disk, Err(RunFault::Memory));
     }
-    take_plays(alloc, disk, options, plays.as_slice(), report, logs)
+    let mut none: Vec<Box<dyn Log>> = Vec::new(alloc);
+    match World::load(alloc, disk, options, &mut none) {
+        Ok((mut world, _)) => {
+            let answer = world.run(plays.as_slice(), report, logs);
+            (world.close(), answer)
+        }
+        Err((disk, _)) => (disk, Err(RunFault::Io)),
+    }
 }
 
 /// The lines of a report as text.
