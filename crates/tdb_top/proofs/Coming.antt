@@ -1,13 +1,12 @@
 -- Plays that are taken one after the other, and told as they are taken.
 use Rattle.std.proofs.Common.{◌≡◌, ℕ, ◌+◌, ◌-◌, ◌<◌, List, [], ◌∷◌, ◌++◌, length, length-append, take, drop, take-append-drop, slice_index_or, Result, Ok, Err, refl, sym, ◌∙◌, ap, subst, arith}
-use Rattle.std.specs.Prelude.{Bool, IsTrue, OnOk, OnErr}
+use Rattle.std.specs.Prelude.{Bool, IsTrue, OnOk, OnErr, false}
 use Rattle.std.proofs.lemmas.List.{append_assoc, append-nil, map-append, drop_more, drop-drop}
 use Rattle.std.proofs.lemmas.List.Concat.{flat_map-cons}
 use Rattle.std.proofs.lemmas.Grind.{flat_map-append}
 use Rattle.std.proofs.lemmas.List.{take-append-le}
 use Rattle.std.proofs.Math.Seq.{take-add}
 use Rattle.tdb_disk.specs.Count.{Rose}
-use Rattle.tdb_disk.specs.History.{History, seen}
 use Rattle.tdb_space.specs.Form.{Form, form_in}
 use Rattle.tdb_backup.specs.Dump.{WroteFront}
 use Rattle.tdb_dump.specs.declared.writer.WriteRefusal.{WriteRefusal}
@@ -22,9 +21,10 @@ use Rattle.tdb_script.specs.Text.{printed_line, report_text}
 use Rattle.tdb_openers.specs.Played.{ComesTo, UnlessIo, OnIo}
 use Rattle.tdb_openers.specs.declared.fault.RunFault.{RunFault}
 use Rattle.tdb_openers.specs.declared.fault.RunFault.TheVariants as Run
-use Rattle.tdb_world.specs.Whole.{Whole, form_at, WorldFits}
-use Rattle.tdb_world.specs.States.{IsStateOf}
-use Rattle.tdb_world.specs.Courses.Led.{moment, Comes, Led}
+use Rattle.tdb_world.specs.Whole.{Whole, form_at}
+use Rattle.tdb_world.specs.OverFile.{OverFile, moment_of}
+use Rattle.tdb_world.specs.OverFiles.Plays.{RunAnswer, is_io}
+use Rattle.tdb_world.specs.Courses.Led.{Comes, Led}
 use Rattle.tdb_world.specs.Courses.Unfinished.{IsEnd}
 use Rattle.tdb_openers.proofs.Joining.Courses.{course_join}
 use Rattle.tdb_world.proofs.Courses.Coming.{whole_comes, comes_more, comes_after}
@@ -156,11 +156,11 @@ unless_sound (Err Rest.Files) not a = a
 
 module _ (disk_tells told : Bool) where
   -- no play was taken
-  pub ran_none : (start : Scene) → WorldFits start.world (seen start.history) start.size → Ran disk_tells told start start [] (Ok (Ok tt))
-  ran_none start fits = record {
+  pub ran_none : (start : Scene) → start.over.spent ≡ false → Ran disk_tells told start start [] (Ok (Ok tt))
+  ran_none start unspent = record {
     header = refl;
     options = refl;
-    fits = fits;
+    unspent = unspent;
     rises = omega arith;
     quiet = refl;
     runs = λ heard state is. (state, is, ([], (refl, refl), (λ out. sym (append-nil start.written)), refl));
@@ -170,20 +170,20 @@ module _ (disk_tells told : Bool) where
   -- plays, and then others, up to those that broke off
   module _ (start mid new : Scene) (plays more : List Play) (first : Ran disk_tells told start mid plays (Ok (Ok tt))) where
     -- the others go on from a state that the first led to
-    next_runs : (answer : PlaysEnd) → Ran disk_tells told mid new more answer → IsTrue disk_tells → (state : State) → IsStateAt mid state → RunsTo (form_at start.world) state more (IsStateAt new) told mid.written new.written mid.logs new.logs answer
+    next_runs : (answer : PlaysEnd) → Ran disk_tells told mid new more answer → IsTrue disk_tells → (state : State) → IsStateAt mid state → RunsTo (form_at start.over.world) state more (IsStateAt new) told mid.written new.written mid.logs new.logs answer
     next_runs answer next heard state is = subst (λ f. RunsTo f state more (IsStateAt new) told mid.written new.written mid.logs new.logs answer) (ap form_in first.header) (next.runs heard state is)
 
     pub ran_on : Ran disk_tells told mid new more (Ok (Ok tt)) → Ran disk_tells told start new (plays ++ more) (Ok (Ok tt))
     ran_on next = record {
       header = next.header ∙ first.header;
       options = next.options ∙ first.options;
-      fits = next.fits;
+      unspent = next.unspent;
       rises = omega (arith, first.rises, next.rises);
       quiet = next.quiet ∙ first.quiet;
       runs = λ heard state is.
           (let p = first.runs heard state is in
           let q = next_runs (Ok (Ok tt)) next heard p.0 p.1 in
-          (q.0, q.1, all_then_all (form_at start.world) told plays more state p.0 q.0 start.written mid.written new.written start.logs mid.logs new.logs p.2 q.2));
+          (q.0, q.1, all_then_all (form_at start.over.world) told plays more state p.0 q.0 start.written mid.written new.written start.logs mid.logs new.logs p.2 q.2));
       rose = λ heard state is. tt;
     }
 
@@ -191,15 +191,15 @@ module _ (disk_tells told : Bool) where
     ran_off rest answer other next = record {
       header = unless_map answer (λ same. same ∙ first.header) next.header;
       options = unless_map answer (λ same. same ∙ first.options) next.options;
-      fits = next.fits;
+      unspent = next.unspent;
       rises = omega (arith, first.rises, next.rises);
       quiet = unless_map answer (λ same. same ∙ first.quiet) next.quiet;
       runs = λ heard state is.
           (let p = first.runs heard state is in
-          runs_after (form_at start.world) told plays more rest state p.0 (IsStateAt new) start.written mid.written new.written start.logs mid.logs new.logs answer other p.2 (next_runs answer next heard p.0 p.1));
+          runs_after (form_at start.over.world) told plays more rest state p.0 (IsStateAt new) start.written mid.written new.written start.logs mid.logs new.logs answer other p.2 (next_runs answer next heard p.0 p.1));
       rose = λ heard state is.
           (let p = first.runs heard state is in
-          on_map answer (λ rose. subst (λ n. Rose n new.faults) first.quiet rose) (next.rose heard p.0 p.1));
+          on_map answer (λ rose. subst (λ n. Rose n new.over.faults) first.quiet rose) (next.rose heard p.0 p.1));
     }
 
 -- how plays ended that were taken and told, by both
@@ -268,31 +268,36 @@ module _ (f : Form) (told : Bool) (plays : List Play) (old : State) (IsLeft : St
   runs_by (Err Run.Io) (Err Untold.Failed) C all front so = (C.0, (lines, C.1, front, so))
 
 -- plays that were taken together, and then told
-module _ (disk_tells told : Bool) (a b : Whole) (h later : History) (size longer faults risen : ℕ) (first lines : List Line) (empty : first ≡ []) (plays : List Play) (before now : List ℕ) (logs noted : List Logged)
+module _ (disk_tells told : Bool) (a b : OverFile) (first lines : List Line) (empty : first ≡ []) (plays : List Play) (before now : List ℕ) (logs noted : List Logged)
     (played : Result (Result (Unit {0}) LogRefusal) RunFault) (untold : Result (Unit {0}) WriteRefusal) where
   abbrev Taken : State → List LawLine → State → Type 0
-  Taken s ls t = ComesTo (form_at a) s (law_plays plays) ls t
+  Taken s ls t = ComesTo (form_at a.world) s (law_plays plays) ls t
 
   abbrev Given : State → Result (Unit {0}) LogRefusal → List LawLine → State → Type 0
-  Given s v = RunsAsTold v (Course (form_at a) s (law_plays plays)) (ComesTo (form_at a) s (law_plays plays))
+  Given s v = RunsAsTold v (Course (form_at a.world) s (law_plays plays)) (ComesTo (form_at a.world) s (law_plays plays))
 
-  pub ran_of : Led disk_tells (moment a h size faults first) (moment b later longer risen lines) played Given Taken Taken
+  pub ran_of : Led disk_tells (moment_of a first) (moment_of b lines) played Given Taken Taken → b.spent ≡ is_io played
       → OnOk untold (IsTrue told → now ≡ before ++ report_text lines) → OnErr untold (IsTrue told → WroteFront before (report_text lines) now)
-      → HeardLed disk_tells (moment a h size faults first) (moment b later longer risen lines) logs noted played
-      → Ran disk_tells told (scene a h size faults before logs) (scene b later longer risen now noted) plays (end_of played untold)
-  ran_of led all front hears = record {
+      → HeardLed disk_tells (moment_of a first) (moment_of b lines) logs noted played
+      → Ran disk_tells told (scene a before logs) (scene b now noted) plays (end_of played untold)
+  ran_of led spent all front hears = record {
     header = unless_end _ played untold led.header;
     options = unless_end _ played untold led.options;
-    fits = unless_end _ played untold led.fits;
+    unspent = unless_end _ played untold (unspent_unless played spent);
     rises = led.rises;
     quiet = unless_end _ played untold led.quiet;
     runs = λ heard s is.
-        runs_by (form_at a) told plays s (IsStateOf b later) lines before now logs noted played untold
-        (subst (λ ls. Comes played (IsStateOf b later) (Given s) (Taken s) (Taken s) (law_lines ls)) (sym alone) (led.told heard s is)) all front
+        runs_by (form_at a.world) told plays s (IsStateAt (scene b now noted)) lines before now logs noted played untold
+        (subst (λ ls. Comes played (IsStateAt (scene b now noted)) (Given s) (Taken s) (Taken s) (law_lines ls)) (sym alone) (led.told heard s is)) all front
         (heard_end logs noted lines played untold (hears heard s lines is (ap (λ ls. ls ++ lines) (sym empty))));
     rose = λ heard s is. on_end _ played untold (led.rose heard s is);
   }
     where
+      unspent_unless : (p : RunAnswer) → b.spent ≡ is_io p → UnlessIo p (b.spent ≡ false)
+      unspent_unless (Ok v) spent = spent
+      unspent_unless (Err Run.Memory) spent = spent
+      unspent_unless (Err Run.Io) spent = tt
+
       alone : lines ≡ led.added
       alone = led.lines ∙ ap (λ f. f ++ led.added) empty
 

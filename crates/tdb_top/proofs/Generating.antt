@@ -1,6 +1,6 @@
 -- Generated commands on a new file: their report is lawful from the empty map on, and what their end gives.
-use Rattle.std.proofs.Common.{◌≡◌, ℕ, ◌<◌, ◌≤◌, false, arith, List, [], length, Option, None, Some, Ok, Err, refl, sym, ◌∙◌, ap, subst, inl, inr}
-use Rattle.std.specs.Prelude.{Bool, IsTrue, IsSome}
+use Rattle.std.proofs.Common.{◌≡◌, ◌≢◌, ℕ, ◌<◌, ◌≤◌, false, arith, List, [], length, Option, None, Some, Result, Ok, Err, refl, sym, ◌∙◌, ap, subst, inl, inr}
+use Rattle.std.specs.Prelude.{Bool, IsTrue, IsSome, IfErr, IfOk, OnOk}
 use Rattle.std.specs.FinMap.{empty, from_entries}
 use Rattle.std.proofs.lemmas.Bool.{false≢true}
 use Rattle.tdb_words.specs.Header.{sequence_at}
@@ -38,7 +38,12 @@ use Rattle.tdb_top.specs.declared.ending.Ending.{Ending}
 use Rattle.tdb_top.specs.declared.ending.Ending.TheVariants as E
 use Rattle.tdb_top.specs.declared.ending.Reply.TheVariants as Reply
 use Rattle.tdb_cmdline.specs.declared.limits.TheConstants.{DEFAULT_SIZE}
-use Rattle.tdb_open.specs.Creating.{IsNewFile}
+use Rattle.tdb_disk.specs.declared.disk.Disk.{Ghosts}
+use Rattle.tdb_open.specs.Creating.{new_length, IsNewFile}
+use Rattle.tdb_open.specs.declared.creating.NewForm.{NewForm}
+use Rattle.tdb_world.specs.declared.creating.CreateRefusal.{CreateRefusal}
+use Rattle.tdb_world.specs.declared.creating.CreateRefusal.TheVariants as Refused
+use Rattle.tdb_world.specs.OverFiles.Opening.{IsNotMade}
 use Rattle.tdb_top.specs.Commands.Generate.{gen_options, new_file, HeardBroken, FilledSo, of_gen, all_done, GenLeaves, GenHeard}
 use Rattle.tdb_top.specs.Commands.Restore.{new_form, of_input}
 use Rattle.tdb_top.specs.Ending.{task_failed, task_wanting, task_unlogged, Untaken, CountedIf}
@@ -76,6 +81,11 @@ moved f options a b c commands seed s e p = record {
   size = subst (λ img. s.length ≡ length img) (sym e) p.size;
 }
 
+-- a file of this form that may be so long isn't made only where a call of the disk failed
+pub not_made : {D : Type 0} (g : Ghosts D) (form : NewForm) (options : Options) (old now : D) (refusal : CreateRefusal) → new_length form ≤ options.limit → IsNotMade g form options old now refusal → refusal ≡ Refused.Device
+not_made g form options old now Refused.Device short N = refl
+not_made g form options old now (Refused.TooLong len) short N = (let long = N.too_long len refl in absurd (omega (arith, short, long.0, long.1)))
+
 module _ (commands seed : ℕ) where
   module _ (logs later : List Logged) where
     -- a sync puts what they did on the medium
@@ -111,6 +121,14 @@ module _ (commands seed : ℕ) where
         heard = heard_whole fault logs later load.lines apart heard;
       },
     )
+
+    -- they were, and then the text was made and the file synced, or one of these failed
+    pub done_finished : (s : Summary) (old now : History) (r : Result (List ℕ) GenFault) → IfOk r (λ text. text ≡ summary_text s) → OnOk r (now ≡ called old synced) → IfErr r (λ e. e ≢ F.Log)
+        → IsNewFile DEFAULT_SIZE Little Old new_file → GeneratedOver new_form gen_options new_file commands seed (seen old) logs later (Ok s) → FilledSo commands seed now logs later r
+    done_finished s old now (Ok text) is done apart file over = filled_synced s text old now is file over done
+    done_finished s old now (Err F.Io) is done apart file over = inr (done_broken F.Io (λ e. cc) s (seen old) over)
+    done_finished s old now (Err F.Memory) is done apart file over = done_broken F.Memory (λ e. cc) s (seen old) over
+    done_finished s old now (Err F.Log) is done apart file over = absurd (apart refl)
 
     -- what logs heard, by the ending
     pub done_heard : (text : List ℕ) (now : History) (given : Option History) → given ≡ Some now → FilledSo commands seed now logs later (Ok text) → GenHeard commands seed given (E.Replied (Reply.Generated text)) logs later

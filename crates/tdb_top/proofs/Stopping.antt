@@ -27,7 +27,8 @@ use Rattle.tdb_world.specs.Stops.{IsSafe}
 use Rattle.tdb_world.specs.Whole.{Whole, form_at}
 use Rattle.tdb_world.proofs.Reopening.{state_reopens}
 use Rattle.tdb_world.specs.Courses.Hearing.{RunsAsTold}
-use Rattle.tdb_world.specs.Courses.Led.{moment, Comes, Led}
+use Rattle.tdb_world.specs.OverFile.{OverFile, HasState, moment_of}
+use Rattle.tdb_world.specs.Courses.Led.{Comes, Led}
 use Rattle.tdb_world.specs.Courses.Stops.{IsTransacted, Leads, OpensOnTheWay, Passes, StopsLed}
 use Rattle.tdb_world.specs.Courses.Unfinished.{AreUnfinished}
 use Rattle.tdb_openers.proofs.Joining.Courses.{course_join}
@@ -91,17 +92,17 @@ module _ (disk_tells told : Bool) where
     whole = λ is out. sym (append-nil start.written);
     front = λ out. (0, omega arith, sym (append-nil start.written));
     all = λ is heard state at. (state, at, (refl, refl));
-    left = λ heard state at. (state, at, whole_comes (form_at start.world) [] state state [] (refl, refl));
+    left = λ heard state at. (state, at, whole_comes (form_at start.over.world) [] state state [] (refl, refl));
     stops = λ heard state is safe calm. record {
-      stops = leaves_start start.history _ (λ c left. here_opens start.world start.history state [] c is (safe c left));
+      stops = leaves_start start.over.history _ (λ c left. here_opens start.over.world start.over.history state [] c is (safe c left));
       left = (state, is, ([], (refl, refl)), safe);
     };
   }
 
   -- plays, and then others
-  module _ (start mid new : Scene) (plays more : List Play) (same : form_at mid.world ≡ form_at start.world) (answer : PlaysEnd) (first : StopsTold disk_tells told start mid plays (Ok (Ok tt))) (next : StopsTold disk_tells told mid new more answer) where
+  module _ (start mid new : Scene) (plays more : List Play) (same : form_at mid.over.world ≡ form_at start.over.world) (answer : PlaysEnd) (first : StopsTold disk_tells told start mid plays (Ok (Ok tt))) (next : StopsTold disk_tells told mid new more answer) where
     abbrev f : Form
-    f = form_at start.world
+    f = form_at start.over.world
 
     abbrev both : List Line
     both = first.lines ++ next.lines
@@ -134,13 +135,13 @@ module _ (disk_tells told : Bool) where
     -- what stops leave after a state, in a form
     abbrev Goes-on : Form → State → Type 0
     Goes-on f s =
-        LeavesOnly mid.history new.history (OpensOnTheWay f s (law_lines next.lines))
-        × UnlessBroken answer ((after : State) × IsStateAt new after × Leads f s (law_lines next.lines) after × IsSafe f new.history)
+        LeavesOnly mid.over.history new.over.history (OpensOnTheWay f s (law_lines next.lines))
+        × UnlessBroken answer ((after : State) × IsStateAt new after × Leads f s (law_lines next.lines) after × IsSafe f new.over.history)
 
-    goes_on : IsTrue disk_tells → (s : State) → IsStateAt mid s → IsSafe f mid.history → IsTransacted f s (law_lines next.lines) → Goes-on f s
-    goes_on heard s is = subst (λ g. IsSafe g mid.history → IsTransacted g s (law_lines next.lines) → Goes-on g s) same (λ safe calm. (let n = next.stops heard s is safe calm in (n.stops, n.left)))
+    goes_on : IsTrue disk_tells → (s : State) → IsStateAt mid s → IsSafe f mid.over.history → IsTransacted f s (law_lines next.lines) → Goes-on f s
+    goes_on heard s is = subst (λ g. IsSafe g mid.over.history → IsTransacted g s (law_lines next.lines) → Goes-on g s) same (λ safe calm. (let n = next.stops heard s is safe calm in (n.stops, n.left)))
 
-    stops_both : IsTrue disk_tells → (state : State) → IsStateAt start state → IsSafe f start.history → IsTransacted f state (law_lines both) → LeavesOnTheWay start new answer state both
+    stops_both : IsTrue disk_tells → (state : State) → IsStateAt start state → IsSafe f start.over.history → IsTransacted f state (law_lines both) → LeavesOnTheWay start new answer state both
     stops_both heard state is safe calm =
         let ls = law_lines first.lines in
         let ms = law_lines next.lines in
@@ -150,10 +151,10 @@ module _ (disk_tells told : Bool) where
         let L : Leads f state ls s = a.left.2 in
         let b = goes_on heard s a.left.1 a.left.3 (calm_rest f state s ls ms L c) in
         record {
-          stops = subst (λ x. LeavesOnly start.history new.history (OpensOnTheWay f state x)) (sym split)
-              (leaves_join start.history mid.history new.history (OpensOnTheWay f state (ls ++ ms))
-              (leaves_weaker start.history mid.history (OpensOnTheWay f state ls) (OpensOnTheWay f state (ls ++ ms)) (front_opens f state s ls ms) a.stops)
-              (leaves_weaker mid.history new.history (OpensOnTheWay f s ms) (OpensOnTheWay f state (ls ++ ms)) (rest_opens f state s ls ms L) b.0));
+          stops = subst (λ x. LeavesOnly start.over.history new.over.history (OpensOnTheWay f state x)) (sym split)
+              (leaves_join start.over.history mid.over.history new.over.history (OpensOnTheWay f state (ls ++ ms))
+              (leaves_weaker start.over.history mid.over.history (OpensOnTheWay f state ls) (OpensOnTheWay f state (ls ++ ms)) (front_opens f state s ls ms) a.stops)
+              (leaves_weaker mid.over.history new.over.history (OpensOnTheWay f s ms) (OpensOnTheWay f state (ls ++ ms)) (rest_opens f state s ls ms L) b.0));
           left = unless_map answer (λ q. (q.0, q.1, subst (λ x. Leads f state x q.0) (sym split) (leads_join f state s q.0 ls ms L q.2), q.3)) b.1;
         }
 
@@ -176,7 +177,7 @@ module _ (disk_tells told : Bool) where
     all = λ is. absurd (other is);
     left = λ heard state at.
         unless_map answer
-        (λ q. (q.0, q.1, subst (λ ps. ComesTo (form_at start.world) state ps (law_lines t.lines) q.0) (sym (map-append law_play plays rest)) (comes_more (form_at start.world) (law_plays plays) (law_plays rest) state q.0 (law_lines t.lines) q.2)))
+        (λ q. (q.0, q.1, subst (λ ps. ComesTo (form_at start.over.world) state ps (law_lines t.lines) q.0) (sym (map-append law_play plays rest)) (comes_more (form_at start.over.world) (law_plays plays) (law_plays rest) state q.0 (law_lines t.lines) q.2)))
         (t.left heard state at);
     stops = t.stops;
   }
@@ -197,27 +198,27 @@ all_done (Err Run.Io) (Err Untold.Memory) is = let wrong : Ok (Err F.Device) ≡
 all_done (Err Run.Io) (Err Untold.Failed) is = let wrong : Err Rest.Fault ≡ Ok (Ok tt) = is in absurd (cc)
 
 -- plays that were taken together, and then told
-module _ (disk_tells told : Bool) (a b : Whole) (h later : History) (size longer faults risen : ℕ) (first lines : List Line) (empty : first ≡ []) (plays : List Play) (before now : List ℕ) (logs noted : List Logged)
+module _ (disk_tells told : Bool) (a b : OverFile) (first lines : List Line) (empty : first ≡ []) (plays : List Play) (before now : List ℕ) (logs noted : List Logged)
     (played : Result (Result (Unit {0}) LogRefusal) RunFault) (untold : Result (Unit {0}) WriteRefusal) where
   abbrev Whole-course : State → List LawLine → State → Type 0
-  Whole-course s ls t = Course (form_at a) s (law_plays plays) ls t
+  Whole-course s ls t = Course (form_at a.world) s (law_plays plays) ls t
 
   abbrev So-far : State → List LawLine → State → Type 0
-  So-far s ls t = ComesTo (form_at a) s (law_plays plays) ls t
+  So-far s ls t = ComesTo (form_at a.world) s (law_plays plays) ls t
 
   abbrev Told : Result (Result (Unit {0}) LogRefusal) RunFault → State → List Line → Type 0
-  Told p s ls = Comes p (IsStateOf b later) (λ v. RunsAsTold v (Whole-course s) (So-far s)) (So-far s) (So-far s) (law_lines ls)
+  Told p s ls = Comes p (HasState b) (λ v. RunsAsTold v (Whole-course s) (So-far s)) (So-far s) (So-far s) (law_lines ls)
 
   -- what the lines tell from a state on
-  came : (p : Result (Result (Unit {0}) LogRefusal) RunFault) (s : State) → Told p s lines → UnlessIo p ((after : State) × IsStateOf b later after × So-far s (law_lines lines) after)
-  came (Ok (Ok v)) s C = (C.0, C.1, whole_comes (form_at a) (law_plays plays) s C.0 (law_lines lines) C.2)
+  came : (p : Result (Result (Unit {0}) LogRefusal) RunFault) (s : State) → Told p s lines → UnlessIo p ((after : State) × HasState b after × So-far s (law_lines lines) after)
+  came (Ok (Ok v)) s C = (C.0, C.1, whole_comes (form_at a.world) (law_plays plays) s C.0 (law_lines lines) C.2)
   came (Ok (Err refusal)) s C = C
   came (Err Run.Memory) s C = C
   came (Err Run.Io) s C = tt
 
-  pub stops_of : Led disk_tells (moment a h size faults first) (moment b later longer risen lines) played (λ s v. RunsAsTold v (Whole-course s) (So-far s)) So-far So-far
-      → StopsLed disk_tells (moment a h size faults first) (moment b later longer risen lines) played → OnOk untold (IsTrue told → now ≡ before ++ report_text lines) → OnErr untold (IsTrue told → WroteFront before (report_text lines) now)
-      → StopsTold disk_tells told (scene a h size faults before logs) (scene b later longer risen now noted) plays (end_of played untold)
+  pub stops_of : Led disk_tells (moment_of a first) (moment_of b lines) played (λ s v. RunsAsTold v (Whole-course s) (So-far s)) So-far So-far
+      → StopsLed disk_tells (moment_of a first) (moment_of b lines) played → OnOk untold (IsTrue told → now ≡ before ++ report_text lines) → OnErr untold (IsTrue told → WroteFront before (report_text lines) now)
+      → StopsTold disk_tells told (scene a before logs) (scene b now noted) plays (end_of played untold)
   stops_of tells led all front = record {
     lines = lines;
     whole = λ is. subst (λ r. OnOk r (IsTrue told → now ≡ before ++ report_text lines)) (all_done played untold is).1 all;
@@ -227,7 +228,7 @@ module _ (disk_tells told : Bool) (a b : Whole) (h later : History) (size longer
     stops = λ heard state is safe calm. (let s = led heard state lines is (ap (λ ls. ls ++ lines) (sym empty)) safe calm in record { stops = s.stops; left = unless_end _ played untold s.left });
   }
     where
-      from : IsTrue disk_tells → (s : State) → IsStateOf a h s → Told played s lines
+      from : IsTrue disk_tells → (s : State) → HasState a s → Told played s lines
       from heard s at = subst (Told played s) (sym (tells.lines ∙ ap (λ ls. ls ++ tells.added) empty)) (tells.told heard s at)
 
 -- the lines of a world's commands that aren't done tell of nothing else
@@ -238,9 +239,9 @@ only_unfinished w o (suc n) lines (inr none) = only_unfinished w (suc o) n lines
 
 -- plays with nothing told behind them, or with the lines of unfinished commands or a front of their text
 module _ (disk_tells told : Bool) (old new : Scene) (plays : List Play) (answer : PlaysEnd) (t : StopsTold disk_tells told old new plays answer) (done sound : Type 0)
-    (read : (after : State) → IsStateAt new after → UnlessBroken answer (IsReadAs (form_at old.world) (seen new.history) after))
+    (read : (after : State) → IsStateAt new after → UnlessBroken answer (IsReadAs (form_at old.over.world) (seen new.over.history) after))
     (unbroken : sound → IsTrue disk_tells → (state : State) → IsStateAt old state → OnBroken answer ⊥) where
-  over : (after : List ℕ) → (IsTrue told → WroteOf t.lines old.written after) → (done → IsTrue told → WroteWhole t.lines old.written after) → StopsOver old.world disk_tells told plays done sound old.history new.history old.written after
+  over : (after : List ℕ) → (IsTrue told → WroteOf t.lines old.written after) → (done → IsTrue told → WroteWhole t.lines old.written after) → StopsOver old.over.world disk_tells told plays done sound old.over.history new.over.history old.written after
   over after printed whole = record {
     lines = t.lines;
     printed = printed;
@@ -251,13 +252,13 @@ module _ (disk_tells told : Bool) (old new : Scene) (plays : List Play) (answer 
     stops = λ heard state is safe calm. (t.stops heard state is safe calm).stops;
   }
 
-  pub stops_broken : (done → ⊥) → StopsOver old.world disk_tells told plays done sound old.history new.history old.written new.written
+  pub stops_broken : (done → ⊥) → StopsOver old.over.world disk_tells told plays done sound old.over.history new.over.history old.written new.written
   stops_broken not =
       over new.written (λ out. (let w = t.front out in ([], tt, w.0, w.2 ∙ ap (λ ls. old.written ++ take w.0 (report_text ls)) (sym (append-nil t.lines)))))
       (λ is out. absurd (not is))
 
   pub stops_finished : (more : List Line) (after : List ℕ) → OnlyUnfinished more → answer ≡ Ok (Ok tt) → (done → IsTrue told → after ≡ new.written ++ report_text more) → (IsTrue told → WroteFront new.written (report_text more) after)
-      → StopsOver old.world disk_tells told plays done sound old.history new.history old.written after
+      → StopsOver old.over.world disk_tells told plays done sound old.over.history new.over.history old.written after
   stops_finished more after only is all front =
       over after
       (λ out. (let w = front_after old.written new.written after (report_text t.lines) (report_text more) (t.whole is out) (front out) in

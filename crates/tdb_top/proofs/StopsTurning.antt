@@ -26,12 +26,16 @@ use Rattle.tdb_world.specs.Whole.{Whole, form_at, options_at}
 use Rattle.tdb_openers.proofs.Joining.Courses.{course_whole}
 use Rattle.tdb_world.specs.Courses.Stops.{OpensOnTheWay}
 use Rattle.tdb_top.specs.declared.ending.Ending.{Ending}
+use Rattle.tdb_top.specs.declared.ending.Ending.TheVariants.{DeviceFault, LogFault, NoMemory, Replied}
+use Rattle.tdb_top.specs.declared.ending.Reply.TheVariants.{Played}
 use Rattle.tdb_top.specs.declared.ending.Unprinted.{Unprinted}
 use Rattle.tdb_top.specs.Ending.{text_of}
 use Rattle.tdb_open.specs.Opening.{opened_bytes, CanOpen, SameOrUndone}
 use Rattle.tdb_top.specs.Output.{output_by}
 use Rattle.tdb_top.specs.Printed.{Finishes}
 use Rattle.tdb_open.specs.Opening.{OpensSafely}
+use Rattle.tdb_open.specs.declared.halt.Fault.TheVariants as F
+use Rattle.tdb_top.specs.Playing.{PlaysEnd, end_told}
 use Rattle.tdb_top.specs.Input.{Input}
 use Rattle.tdb_top.specs.Safe.{IsLeftAs}
 use Rattle.tdb_top.specs.Stops.{StopsOver, StopsOfTurns, StopsHeld, StopsScripted, WroteLine}
@@ -59,6 +63,14 @@ turns_of w plays h now disk_tells told done sound before after state just A hear
   left = λ so. S.left so heard state just.of_world;
   stops = λ quiet again calm. S.stops heard state just.of_world (accepted_safe (form_at w) h A quiet) calm;
 }
+
+-- turns end as all played only where their plays are done
+pub all_ended : (answer : PlaysEnd) → end_told answer ≡ Ok (Replied Played) → answer ≡ Ok (Ok tt)
+all_ended (Ok (Ok v)) is = refl
+all_ended (Ok (Err F.Device)) is = let wrong : Ok DeviceFault ≡ Ok (Replied Played) = is in absurd (cc)
+all_ended (Ok (Err F.Memory)) is = let wrong : Ok NoMemory ≡ Ok (Replied Played) = is in absurd (cc)
+all_ended (Ok (Err F.Log)) is = let wrong : Ok LogFault ≡ Ok (Replied Played) = is in absurd (cc)
+all_ended (Err unprinted) is = let wrong : Err unprinted ≡ Ok (Replied Played) = is in absurd (cc)
 
 -- what opens to an image opens to the state of a world just loaded over it
 pub start_opens : (f : Form) (r : List ℕ) (start : State) (lines : List LawLine) → IsOver f r start → (c : List ℕ) → Reopens r c → OpensOnTheWay f start lines c

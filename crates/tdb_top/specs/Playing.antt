@@ -1,5 +1,5 @@
 -- How plays are taken over a file and told on an output, as far as they come.
-use Rattle.std.specs.Prelude.{◌≡◌, ℕ, ◌≤◌, Bool, IsTrue, List, ◌++◌, Option, None, Some, Result, Ok, Err}
+use Rattle.std.specs.Prelude.{◌≡◌, ℕ, ◌≤◌, Bool, IsTrue, List, ◌++◌, Option, None, Some, Result, Ok, Err, false}
 use Rattle.tdb_disk.specs.Count.{Rose}
 use Rattle.tdb_space.specs.Form.{Form, form_of}
 use Rattle.tdb_backup.specs.Dump.{WroteFront}
@@ -10,7 +10,7 @@ use Rattle.tdb_commands.specs.declared.line.Line.{Line}
 use Rattle.tdb_commands.specs.declared.play.Play.{Play}
 use Rattle.tdb_script.specs.Text.{report_text}
 use Rattle.tdb_openers.specs.Played.{ComesTo}
-use Rattle.tdb_world.specs.Whole.{Whole, form_at, WorldFits}
+use Rattle.tdb_world.specs.Whole.{Whole, form_at}
 use Rattle.tdb_world.specs.Courses.Hearing.{Heard}
 use Rattle.tdb_world.specs.Courses.Scene.{Scene, IsStateAt}
 use Rattle.tdb_world.specs.Courses.Unfinished.{IsEnd}
@@ -97,16 +97,17 @@ RunsTo f old plays IsLeft told before now logs later (Err Rest.Pairs) = ⊥
 RunsTo f old plays IsLeft told before now logs later (Err Rest.Files) = ⊥
 
 -- Plays led from one moment to another, and ended so, over a disk and an output that tell or don't: from each state
--- that the world may have to one that it may have afterwards.
+-- that the world may have to one that it may have afterwards. Unless the disk failed the world isn't spent, and the
+-- count of faults is as it was.
 pub record Ran (disk_tells output_tells : Bool) (old new : Scene) (plays : List Play) (answer : PlaysEnd) : Type 0 where
-  pub header : UnlessBroken answer (new.world.openers.header ≡ old.world.openers.header)
-  pub options : UnlessBroken answer (new.world.openers.options ≡ old.world.openers.options)
-  pub fits : UnlessBroken answer (WorldFits new.world (seen new.history) new.size)
-  pub rises : old.faults ≤ new.faults
-  pub quiet : UnlessBroken answer (new.faults ≡ old.faults)
+  pub header : UnlessBroken answer (new.over.world.openers.header ≡ old.over.world.openers.header)
+  pub options : UnlessBroken answer (new.over.world.openers.options ≡ old.over.world.openers.options)
+  pub unspent : UnlessBroken answer (new.over.spent ≡ false)
+  pub rises : old.over.faults ≤ new.over.faults
+  pub quiet : UnlessBroken answer (new.over.faults ≡ old.over.faults)
   pub runs : IsTrue disk_tells → (state : State) → IsStateAt old state
-      → RunsTo (form_at old.world) state plays (IsStateAt new) output_tells old.written new.written old.logs new.logs answer
-  pub rose : IsTrue disk_tells → (state : State) → IsStateAt old state → OnBroken answer (Rose old.faults new.faults)
+      → RunsTo (form_at old.over.world) state plays (IsStateAt new) output_tells old.written new.written old.logs new.logs answer
+  pub rose : IsTrue disk_tells → (state : State) → IsStateAt old state → OnBroken answer (Rose old.over.faults new.over.faults)
 
 -- The lines of all commands that aren't done in a world were written, or a front of their text where that broke off.
 pub record EndTold (w : Whole) (told : Bool) (before now : List ℕ) (answer : PlaysEnd) : Type 0 where

@@ -35,8 +35,8 @@ use Rattle.tdb_top.specs.Safe.{StopsSince, IsLeftAs}
 -- Every stop between two moments leaves a file that opens on the way that these lines tell from a state; and unless the
 -- disk failed they lead to a state of the other moment, in which a stop leaves only what opens to the file's map.
 pub record LeavesOnTheWay (old new : Scene) (answer : PlaysEnd) (state : State) (lines : List Line) : Type 0 where
-  pub stops : LeavesOnly old.history new.history (OpensOnTheWay (form_at old.world) state (law_lines lines))
-  pub left : UnlessBroken answer ((after : State) × IsStateAt new after × Leads (form_at old.world) state (law_lines lines) after × IsSafe (form_at old.world) new.history)
+  pub stops : LeavesOnly old.over.history new.over.history (OpensOnTheWay (form_at old.over.world) state (law_lines lines))
+  pub left : UnlessBroken answer ((after : State) × IsStateAt new after × Leads (form_at old.over.world) state (law_lines lines) after × IsSafe (form_at old.over.world) new.over.history)
 
 -- Plays ended so between two moments, and their lines were written, or a front of the text of these. Unless the disk
 -- failed these lines tell the plays, as far as they came, from each state of the first moment to one of the other, and
@@ -47,10 +47,10 @@ pub record StopsTold (disk_tells output_tells : Bool) (old new : Scene) (plays :
   pub whole : answer ≡ Ok (Ok tt) → IsTrue output_tells → new.written ≡ old.written ++ report_text lines
   pub front : IsTrue output_tells → WroteFront old.written (report_text lines) new.written
   pub all : answer ≡ Ok (Ok tt) → IsTrue disk_tells → (state : State) → IsStateAt old state
-      → (after : State) × IsStateAt new after × Course (form_at old.world) state (law_plays plays) (law_lines lines) after
+      → (after : State) × IsStateAt new after × Course (form_at old.over.world) state (law_plays plays) (law_lines lines) after
   pub left : IsTrue disk_tells → (state : State) → IsStateAt old state
-      → UnlessBroken answer ((after : State) × IsStateAt new after × ComesTo (form_at old.world) state (law_plays plays) (law_lines lines) after)
-  pub stops : IsTrue disk_tells → (state : State) → IsStateAt old state → IsSafe (form_at old.world) old.history → IsTransacted (form_at old.world) state (law_lines lines)
+      → UnlessBroken answer ((after : State) × IsStateAt new after × ComesTo (form_at old.over.world) state (law_plays plays) (law_lines lines) after)
+  pub stops : IsTrue disk_tells → (state : State) → IsStateAt old state → IsSafe (form_at old.over.world) old.over.history → IsTransacted (form_at old.over.world) state (law_lines lines)
       → LeavesOnTheWay old new answer state lines
 
 -- these lines tell of unfinished commands alone

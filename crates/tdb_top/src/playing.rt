@@ -1,6 +1,6 @@
 // Plays that are taken over a file, and told line by line; logs are told what becomes of the file.
 
-ghost use Rattle.std.specs.Prelude.{◌≡◌, ◌≤◌, ◌++◌, [], ℕ, List, Ok, IsTrue, OnOk, OnErr};
+ghost use Rattle.std.specs.Prelude.{◌≡◌, ◌≤◌, ◌++◌, [], Ok, IsTrue, OnOk, OnErr, false};
 ghost use Rattle.tdb_disk.specs.Count.{HasCause, HasCauseOf, Rose};
 ghost use Rattle.tdb_disk.specs.History.{seen};
 ghost use Rattle.tdb_law.specs.World.{State};
@@ -8,7 +8,7 @@ ghost use Rattle.tdb_space.specs.Accepted.{AcceptWith};
 ghost use Rattle.tdb_backup.specs.Dump.{WroteFront};
 ghost use Rattle.tdb_dump.specs.declared.writer.WriteRefusal.TheVariants.{Failed};
 ghost use Rattle.tdb_script.specs.Text.{report_text};
-ghost use Rattle.tdb_world.specs.Whole.{form_at, options_at, WorldFits};
+ghost use Rattle.tdb_world.specs.Whole.{form_at, options_at};
 ghost use Rattle.tdb_world.specs.Courses.Playable.{ArePlayable};
 ghost use Rattle.tdb_world.specs.Courses.Scene.{scene};
 ghost use Rattle.tdb_top.specs.Playing.{UnlessBroken, OnBroken, IsUnbroken, PlayedOver, Ran, EndTold, end_of};
@@ -23,7 +23,7 @@ use tdb_dump::WriteRefusal;
 use tdb_log::{LogRefusal, Logs};
 use tdb_open::Fault;
 use tdb_script::write_line;
-use tdb_world::{RunFault, World, finish_report, run};
+use tdb_world::{RunFault, World};
 
 /// Writes the lines of a report, each in one call. Where the output fails, or memory is wanting, a front of their text
 /// was written.
@@ -63,22 +63,21 @@ fn ended(
 /// Takes plays, and tells them. The lines of the play whose notice a log refused are told too.
 fn play_some<D: Disk, K: Sink, L: Logs>(
     alloc: Global,
-    world: &mut World,
-    disk: &mut D,
+    world: &mut World<D>,
     plays: &[Play],
     output: &mut K,
     logs: &mut L,
 ) -> Result<Result<(), Fault>, Unprinted>
-    requires fits { WorldFits world.old (seen (D.history disk.old)) (D.size disk.old) }
+    requires unspent { world.old.spent ≡ false }
     requires playable { ArePlayable plays.now }
-    ensures ran { Ran D.tells K.tells (scene world.old (D.history disk.old) (D.size disk.old) (D.faults disk.old) (K.written output.old) (L.logs logs.old))
-        (scene world.new (D.history disk.new) (D.size disk.new) (D.faults disk.new) (K.written output.new) (L.logs logs.new)) plays.now result }
-    ensures stops { StopsTold D.tells K.tells (scene world.old (D.history disk.old) (D.size disk.old) (D.faults disk.old) (K.written output.old) (L.logs logs.old))
-        (scene world.new (D.history disk.new) (D.size disk.new) (D.faults disk.new) (K.written output.new) (L.logs logs.new)) plays.now result }
+    ensures ran { Ran D.tells K.tells (scene world.old (K.written output.old) (L.logs logs.old))
+        (scene world.new (K.written output.new) (L.logs logs.new)) plays.now result }
+    ensures stops { StopsTold D.tells K.tells (scene world.old (K.written output.old) (L.logs logs.old))
+        (scene world.new (K.written output.new) (L.logs logs.new)) plays.now result }
     ensures cause { HasCause (K.faults output.old) (K.faults output.new) result }
 {
     let mut report = TurnReport::new(alloc);
-    let played = run(world, disk, plays, &mut report, logs);
+    let played = world.run(plays, &mut report, logs);
     let told = tell(alloc, &report, output);
     ended(played, told)
 }
@@ -86,22 +85,21 @@ fn play_some<D: Disk, K: Sink, L: Logs>(
 /// Takes plays one after the other, and tells each as it is taken.
 fn play_each<D: Disk, K: Sink, L: Logs>(
     alloc: Global,
-    world: &mut World,
-    disk: &mut D,
+    world: &mut World<D>,
     plays: &[Play],
     output: &mut K,
     logs: &mut L,
 ) -> Result<Result<(), Fault>, Unprinted>
-    requires fits { WorldFits world.old (seen (D.history disk.old)) (D.size disk.old) }
+    requires unspent { world.old.spent ≡ false }
     requires playable { ArePlayable plays.now }
-    ensures ran { Ran D.tells K.tells (scene world.old (D.history disk.old) (D.size disk.old) (D.faults disk.old) (K.written output.old) (L.logs logs.old))
-        (scene world.new (D.history disk.new) (D.size disk.new) (D.faults disk.new) (K.written output.new) (L.logs logs.new)) plays.now result }
-    ensures stops { StopsTold D.tells K.tells (scene world.old (D.history disk.old) (D.size disk.old) (D.faults disk.old) (K.written output.old) (L.logs logs.old))
-        (scene world.new (D.history disk.new) (D.size disk.new) (D.faults disk.new) (K.written output.new) (L.logs logs.new)) plays.now result }
+    ensures ran { Ran D.tells K.tells (scene world.old (K.written output.old) (L.logs logs.old))
+        (scene world.new (K.written output.new) (L.logs logs.new)) plays.now result }
+    ensures stops { StopsTold D.tells K.tells (scene world.old (K.written output.old) (L.logs logs.old))
+        (scene world.new (K.written output.new) (L.logs logs.new)) plays.now result }
     ensures cause { HasCause (K.faults output.old) (K.faults output.new) result }
 {
     for i in 0..plays.len() {
-        match play_some(alloc, world, disk, &plays[i..i + 1], output, logs)? {
+        match play_some(alloc, world, &plays[i..i + 1], output, logs)? {
             Ok(()) => {}
             Err(fault) => return Ok(Err(fault)),
         }
@@ -110,18 +108,18 @@ fn play_each<D: Disk, K: Sink, L: Logs>(
 }
 
 /// Tells which openers have an unfinished command.
-fn tell_unfinished<K: Sink>(
+fn tell_unfinished<D: Disk, K: Sink>(
     alloc: Global,
-    world: &World,
+    world: &World<D>,
     output: &mut K,
 ) -> Result<Result<(), Fault>, Unprinted>
-    requires { (img : List ℕ) × (size : ℕ) × WorldFits world.now img size }
-    ensures told { EndTold world.now K.tells (K.written output.old) (K.written output.new) result }
+    requires unspent { world.now.spent ≡ false }
+    ensures told { EndTold world.now.world K.tells (K.written output.old) (K.written output.new) result }
     ensures unbroken { IsUnbroken result }
     ensures cause { HasCause (K.faults output.old) (K.faults output.new) result }
 {
     let mut report = TurnReport::new(alloc);
-    let Ok(()) = finish_report(world, &mut report) else {
+    let Ok(()) = world.finish_report(&mut report) else {
         return Ok(Err(Fault::Memory));
     };
     let told = tell(alloc, &report, output);
@@ -131,51 +129,52 @@ fn tell_unfinished<K: Sink>(
 /// Takes all plays in a world, and tells them and the commands that are unfinished then.
 fn play_in<D: Disk, K: Sink, L: Logs>(
     alloc: Global,
-    world: &mut World,
-    disk: &mut D,
+    world: &mut World<D>,
     plays: &[Play],
     output: &mut K,
     logs: &mut L,
 ) -> Result<Result<(), Fault>, Unprinted>
-    requires fits { WorldFits world.old (seen (D.history disk.old)) (D.size disk.old) }
+    requires unspent { world.old.spent ≡ false }
     requires playable { ArePlayable plays.now }
-    ensures played { IsTrue D.tells → (state : State) → IsJustLoaded world.old (D.history disk.old) state
-        → PlayedOver (form_at world.old) (options_at world.old) (seen (D.history disk.old)) plays.now (seen (D.history disk.new)) K.tells (K.written output.old) (K.written output.new) (L.logs logs.old) (L.logs logs.new) result }
-    ensures rises { D.faults disk.old ≤ D.faults disk.new }
-    ensures quiet { UnlessBroken result (D.faults disk.new ≡ D.faults disk.old) }
-    ensures rose { IsTrue D.tells → (state : State) → IsJustLoaded world.old (D.history disk.old) state → OnBroken result (Rose (D.faults disk.old) (D.faults disk.new)) }
-    ensures stops { StopsOver world.old D.tells K.tells plays.now (result ≡ Ok (Ok tt)) (Rose (D.faults disk.old) (D.faults disk.new) → ⊥) (D.history disk.old) (D.history disk.new) (K.written output.old) (K.written output.new) }
+    ensures played { IsTrue D.tells → (state : State) → IsJustLoaded world.old.world world.old.history state
+        → PlayedOver (form_at world.old.world) (options_at world.old.world) (seen world.old.history) plays.now (seen world.new.history) K.tells (K.written output.old) (K.written output.new) (L.logs logs.old) (L.logs logs.new) result }
+    ensures rises { world.old.faults ≤ world.new.faults }
+    ensures quiet { UnlessBroken result (world.new.faults ≡ world.old.faults) }
+    ensures rose { IsTrue D.tells → (state : State) → IsJustLoaded world.old.world world.old.history state → OnBroken result (Rose world.old.faults world.new.faults) }
+    ensures stops { StopsOver world.old.world D.tells K.tells plays.now (result ≡ Ok (Ok tt)) (Rose world.old.faults world.new.faults → ⊥) world.old.history world.new.history (K.written output.old) (K.written output.new) }
     ensures cause { HasCause (K.faults output.old) (K.faults output.new) result }
 {
-    match play_each(alloc, world, disk, plays, output, logs)? {
-        Ok(()) => tell_unfinished(alloc, world, output),
+    match play_each(alloc, world, plays, output, logs)? {
+        Ok(()) => {
+            world.stands();
+            tell_unfinished(alloc, world, output)
+        }
         Err(fault) => Ok(Err(fault)),
     }
 }
 
-/// Takes all plays in a world over the opened file on a disk, and tells them and the commands that are unfinished then;
-/// then the world is given up. The logs are told what the plays do to the file, and nothing of the unfinished commands.
+/// Takes all plays in a world over an opened file, and tells them and the commands that are unfinished then; then the
+/// world is given up, and the disk comes back. The logs are told what the plays do to the file, and nothing of the
+/// unfinished commands.
 pub(crate) fn play_all<D: Disk, K: Sink, L: Logs>(
     alloc: Global,
-    mut world: World,
-    disk: &mut D,
+    mut world: World<D>,
     plays: &[Play],
     output: &mut K,
     logs: &mut L,
-) -> Result<Result<(), Fault>, Unprinted>
-    requires fits { WorldFits world (seen (D.history disk.old)) (D.size disk.old) }
-    requires accepted { IsTrue D.tells → AcceptWith (form_at world) (seen (D.history disk.old)) [] }
+) -> (D, Result<Result<(), Fault>, Unprinted>)
+    requires unspent { world.spent ≡ false }
+    requires accepted { IsTrue D.tells → AcceptWith (form_at world.world) (seen world.history) [] }
     requires playable { ArePlayable plays.now }
-    ensures played { IsTrue D.tells → (state : State) → IsJustLoaded world (D.history disk.old) state
-        → PlayedOver (form_at world) (options_at world) (seen (D.history disk.old)) plays.now (seen (D.history disk.new)) K.tells (K.written output.old) (K.written output.new) (L.logs logs.old) (L.logs logs.new) result }
-    ensures rises { D.faults disk.old ≤ D.faults disk.new }
-    ensures quiet { UnlessBroken result (D.faults disk.new ≡ D.faults disk.old) }
-    ensures rose { IsTrue D.tells → (state : State) → IsJustLoaded world (D.history disk.old) state → OnBroken result (Rose (D.faults disk.old) (D.faults disk.new)) }
-    ensures stops { IsTrue D.tells → (state : State) → IsJustLoaded world (D.history disk.old) state
-        → StopsOfTurns (form_at world) (options_at world) plays.now (D.history disk.old) (D.history disk.new) K.tells (result ≡ Ok (Ok tt)) (Rose (D.faults disk.old) (D.faults disk.new) → ⊥) (K.written output.old) (K.written output.new) }
-    ensures cause { HasCause (K.faults output.old) (K.faults output.new) result }
+    ensures played { IsTrue D.tells → (state : State) → IsJustLoaded world.world world.history state
+        → PlayedOver (form_at world.world) (options_at world.world) (seen world.history) plays.now (seen (D.history result.0)) K.tells (K.written output.old) (K.written output.new) (L.logs logs.old) (L.logs logs.new) result.1 }
+    ensures rises { world.faults ≤ D.faults result.0 }
+    ensures quiet { UnlessBroken result.1 (D.faults result.0 ≡ world.faults) }
+    ensures rose { IsTrue D.tells → (state : State) → IsJustLoaded world.world world.history state → OnBroken result.1 (Rose world.faults (D.faults result.0)) }
+    ensures stops { IsTrue D.tells → (state : State) → IsJustLoaded world.world world.history state
+        → StopsOfTurns (form_at world.world) (options_at world.world) plays.now world.history (D.history result.0) K.tells (result.1 ≡ Ok (Ok tt)) (Rose world.faults (D.faults result.0) → ⊥) (K.written output.old) (K.written output.new) }
+    ensures cause { HasCause (K.faults output.old) (K.faults output.new) result.1 }
 {
-    let played = play_in(alloc, &mut world, disk, plays, output, logs);
-    world.end();
-    played
+    let played = play_in(alloc, &mut world, plays, output, logs);
+    (world.close(), played)
 }

@@ -1,10 +1,12 @@
 // The command that makes a new file, has generated commands done on it, and tells their summary.
 
-ghost use Rattle.std.specs.Prelude.{◌≡◌, ◌≤◌, ℕ, List, false, IsTrue};
+ghost use Rattle.std.specs.Prelude.{◌≡◌, ◌≢◌, ◌≤◌, ℕ, List, false, IsTrue, IfErr, IfOk, OnOk};
 ghost use Rattle.tdb_disk.specs.Count.{HasCauseOf};
+ghost use Rattle.tdb_disk.specs.History.{called, synced};
 ghost use Rattle.tdb_disk.specs.Names.{SameBut};
+ghost use Rattle.tdb_gen.specs.Summary.{summary_text};
 ghost use Rattle.tdb_gen.specs.Taking.{UnlessIo};
-ghost use Rattle.tdb_gen.specs.declared.fault.GenFault.TheVariants.{Io};
+ghost use Rattle.tdb_gen.specs.declared.fault.GenFault.TheVariants.{Io, Log};
 ghost use Rattle.tdb_top.specs.declared.ending.Ending.TheVariants.{Usage};
 ghost use Rattle.tdb_top.specs.Commands.Generate as G;
 ghost use Rattle.tdb_top.specs.Commands.Restore.{of_input};
@@ -16,10 +18,11 @@ use crate::ending::{Ending, Reply};
 use std::alloc::Global;
 use tdb_commands::Options;
 use tdb_disk::{Disk, Files, Take};
-use tdb_gen::{GenFault, generate};
+use tdb_gen::{GenFault, Summary, generate};
 use tdb_log::Logs;
-use tdb_open::{LONGEST_FILE, make};
+use tdb_open::LONGEST_FILE;
 use tdb_words::Bytes;
+use tdb_world::World;
 
 /// How the openers of the commands open their file.
 const OPTIONS: Options = Options {
@@ -41,29 +44,46 @@ impl From<GenFault> for Ending {
     }
 }
 
-/// Makes an empty disk a new file of 131 chains, has so many generated commands done on it, of which the last log is
-/// told each growth of the file, and syncs. It gives the text of their summary.
-fn fill<D: Disk, L: Logs>(
-    alloc: Global,
-    disk: &mut D,
-    commands: u32,
-    seed: u32,
-    logs: &mut L,
-) -> Result<Bytes, GenFault>
-    requires empty { D.size disk.old ≡ 0 }
-    ensures generated { IsTrue D.tells → G.FilledSo commands seed (D.history disk.new) (L.logs logs.old) (L.logs logs.new) result }
-    ensures cause { IsTrue D.tells → HasCauseOf Io (D.faults disk.old) (D.faults disk.new) result }
-    ensures rises { D.faults disk.old ≤ D.faults disk.new }
-    ensures quiet { UnlessIo result (D.faults disk.new ≡ D.faults disk.old) }
+/// Syncs the file that commands have filled, and gives the text of their summary.
+fn finish<D: Disk>(alloc: Global, summary: &Summary, disk: &mut D) -> Result<Bytes, GenFault>
+    ensures text { IfOk result (λ text. text ≡ summary_text summary.now) }
+    ensures done { IsTrue D.tells → OnOk result (D.history disk.new ≡ called (D.history disk.old) synced) }
+    ensures fault { IfErr result (λ e. e ≢ Log) }
+    ensures cause { HasCauseOf Io (D.faults disk.old) (D.faults disk.new) result }
 {
-    let Ok(()) = make(disk, NEW_FORM) else {
-        return Err(GenFault::Io);
-    };
-    let summary = generate(alloc, disk, &HEADER, &OPTIONS, commands, seed, logs)?;
     let text = summary.text(alloc)?;
     match disk.sync() {
         Ok(()) => Ok(text),
         Err(_) => Err(GenFault::Io),
+    }
+}
+
+/// Makes an empty disk a new file of 131 chains, has so many generated commands done on it, of which the last log is
+/// told each growth of the file, and syncs. It gives the text of their summary, and the disk back.
+fn fill<D: Disk, L: Logs>(
+    alloc: Global,
+    disk: D,
+    commands: u32,
+    seed: u32,
+    logs: &mut L,
+) -> (D, Result<Bytes, GenFault>)
+    requires empty { D.size disk ≡ 0 }
+    ensures generated { IsTrue D.tells → G.FilledSo commands seed (D.history result.0) (L.logs logs.old) (L.logs logs.new) result.1 }
+    ensures cause { IsTrue D.tells → HasCauseOf Io (D.faults disk) (D.faults result.0) result.1 }
+    ensures rises { D.faults disk ≤ D.faults result.0 }
+    ensures quiet { UnlessIo result.1 (D.faults result.0 ≡ D.faults disk) }
+{
+    let world = match World::create(alloc, disk, NEW_FORM, &OPTIONS) {
+        Ok(world) => world,
+        Err((disk, _)) => return (disk, Err(GenFault::Io)),
+    };
+    let (mut disk, made) = generate(alloc, world, &HEADER, commands, seed, logs);
+    match made {
+        Ok(summary) => {
+            let text = finish(alloc, &summary, &mut disk);
+            (disk, text)
+        }
+        Err(fault) => (disk, Err(fault)),
     }
 }
 
@@ -87,11 +107,11 @@ pub(crate) fn generate_file<F: Files, L: Logs>(
     ensures unread { of_input result ≡ false }
     ensures told { IsTrue F.D.tells → G.GenHeard commands seed (F.held files.new name.now) result (L.logs logs.old) (L.logs logs.new) }
 {
-    let mut disk = match files.take(alloc, name, Take::New) {
+    let disk = match files.take(alloc, name, Take::New) {
         Ok(disk) => disk,
         Err(refusal) => return Ending::untaken(alloc, name, refusal),
     };
-    let filled = fill(alloc, &mut disk, commands, seed, logs);
+    let (disk, filled) = fill(alloc, disk, commands, seed, logs);
     files.give(name, disk);
     match filled {
         Ok(text) => Ending::Replied(Reply::Generated(text)),

@@ -18,7 +18,7 @@ use tdb_disk::{Disk, Files, Sink, Source, Take};
 use tdb_log::Logs;
 use tdb_openers::Options;
 use tdb_tool::{SessionEnd, SessionFault, run_session};
-use tdb_world::load;
+use tdb_world::World;
 
 /// How a file is opened for a session that may make it so long.
 fn options_within(limit: u64) -> Options
@@ -47,28 +47,29 @@ fn told(answer: Result<SessionEnd, SessionFault>) -> Result<Ending, Unprinted>
     }
 }
 
-/// Opens the file on a disk, and does what the lines of the input order over it.
+/// Opens the file on a disk, does what the lines of the input order over it, and gives the disk back.
 fn session_on_disk<D: Disk, S: Source, K: Sink, L: Logs>(
     alloc: Global,
     limit: u64,
-    disk: &mut D,
+    disk: D,
     input: &mut S,
     output: &mut K,
     logs: &mut L,
-) -> Result<Ending, Unprinted>
+) -> (D, Result<Ending, Unprinted>)
     requires limit { limit ≤ 4294963200 }
-    ensures served { IsTrue D.tells → SessionFile limit (input_by S.tells (S.left input.old) (S.faults input.old) (S.faults input.new)) (D.history disk.old) (D.history disk.new) K.tells (K.written output.old) (K.written output.new) (L.logs logs.old) (L.logs logs.new) result }
-    ensures counted { CountedIf D.tells (D.faults disk.old) (D.faults disk.new) (ending_of result) }
-    ensures cause { HasCause (K.faults output.old) (K.faults output.new) result }
-    ensures asked { ending_of result ≡ Usage → ⊥ }
-    ensures heard { HeardBy (S.faults input.old) (S.faults input.new) (ending_of result) }
+    ensures served { IsTrue D.tells → SessionFile limit (input_by S.tells (S.left input.old) (S.faults input.old) (S.faults input.new)) (D.history disk) (D.history result.0) K.tells (K.written output.old) (K.written output.new) (L.logs logs.old) (L.logs logs.new) result.1 }
+    ensures counted { CountedIf D.tells (D.faults disk) (D.faults result.0) (ending_of result.1) }
+    ensures cause { HasCause (K.faults output.old) (K.faults output.new) result.1 }
+    ensures asked { ending_of result.1 ≡ Usage → ⊥ }
+    ensures heard { HeardBy (S.faults input.old) (S.faults input.new) (ending_of result.1) }
 {
     let options = options_within(limit);
-    let (world, _) = match load(alloc, disk, &options, logs) {
+    let (world, _) = match World::load(alloc, disk, &options, logs) {
         Ok(loaded) => loaded,
-        Err(halt) => return Ok(Ending::from(halt)),
+        Err((disk, halt)) => return (disk, Ok(Ending::from(halt))),
     };
-    told(run_session(alloc, world, disk, input, output, logs))
+    let (disk, answer) = run_session(alloc, world, input, output, logs);
+    (disk, told(answer))
 }
 
 /// Does what the lines of the input order over the file of this name, which may become `limit` bytes long, and prints
@@ -99,8 +100,8 @@ pub(crate) fn session_on_file<F: Files, S: Source, K: Sink, L: Logs>(
     ensures heard { HeardBy (S.faults input.old) (S.faults input.new) (ending_of result) }
 {
     match files.take(alloc, name, Take::Existing) {
-        Ok(mut disk) => {
-            let served = session_on_disk(alloc, limit, &mut disk, input, output, logs);
+        Ok(disk) => {
+            let (disk, served) = session_on_disk(alloc, limit, disk, input, output, logs);
             files.give(name, disk);
             served
         }

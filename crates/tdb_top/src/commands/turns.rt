@@ -17,7 +17,7 @@ ghost use Rattle.tdb_top.specs.Looks.{ending_of, Began};
 ghost use Rattle.tdb_open.specs.Loading.{OpensToTurn};
 ghost use Rattle.tdb_open.specs.Opening.{opened_bytes};
 ghost use Rattle.tdb_top.specs.Output.{output_by};
-ghost use Rattle.tdb_top.specs.Playing.{PlayedFile, PlayedAll, PlaysCause};
+ghost use Rattle.tdb_top.specs.Playing.{end_told, PlayedFile, PlayedAll, PlaysCause};
 ghost use Rattle.tdb_top.specs.Reads.{AskCause};
 ghost use Rattle.tdb_top.specs.Stops.{StopsHeld, StopsOfTurns, StopsScripted};
 
@@ -30,37 +30,46 @@ use tdb_disk::{Disk, Files, Sink, Source, Take};
 use tdb_log::Logs;
 use tdb_open::Fault;
 use tdb_openers::Options;
-use tdb_world::load;
+use tdb_world::World;
 
-/// Opens the file on a disk, takes plays over it, and tells them.
+/// How a run ends whose plays ended so.
+fn told(played: Result<Result<(), Fault>, Unprinted>) -> Result<Ending, Unprinted>
+    ensures { result ≡ end_told played }
+{
+    match played {
+        Ok(Ok(())) => Ok(Ending::Replied(Reply::Played)),
+        Ok(Err(Fault::Device)) => Ok(Ending::DeviceFault),
+        Ok(Err(Fault::Memory)) => Ok(Ending::NoMemory),
+        Ok(Err(Fault::Log)) => Ok(Ending::LogFault),
+        Err(unprinted) => Err(unprinted),
+    }
+}
+
+/// Opens the file on a disk, takes plays over it, tells them, and gives the disk back.
 fn play_on_disk<D: Disk, K: Sink, L: Logs>(
     alloc: Global,
     options: &Options,
     plays: &[Play],
-    disk: &mut D,
+    disk: D,
     output: &mut K,
     logs: &mut L,
-) -> Result<Ending, Unprinted>
+) -> (D, Result<Ending, Unprinted>)
     requires limit { options.now.limit ≤ 4294963200 }
     requires playable { ArePlayable plays.now }
-    ensures played { IsTrue D.tells → PlayedFile options.now (D.history disk.old) (D.history disk.new) plays.now K.tells (K.written output.old) (K.written output.new) (L.logs logs.old) (L.logs logs.new) result }
-    ensures stops { IsTrue D.tells → OpensToTurn options.now (seen (D.history disk.old))
-        → StopsOfTurns (form_of (opened_bytes (seen (D.history disk.old)))) options.now plays.now (D.history disk.old) (D.history disk.new) K.tells (result ≡ Ok (Replied Played)) (Rose (D.faults disk.old) (D.faults disk.new) → ⊥) (K.written output.old) (K.written output.new) }
-    ensures counted { CountedIf D.tells (D.faults disk.old) (D.faults disk.new) (ending_of result) }
-    ensures cause { HasCause (K.faults output.old) (K.faults output.new) result }
-    ensures asked { ending_of result ≡ Usage → ⊥ }
-    ensures unread { of_input (ending_of result) ≡ false }
+    ensures played { IsTrue D.tells → PlayedFile options.now (D.history disk) (D.history result.0) plays.now K.tells (K.written output.old) (K.written output.new) (L.logs logs.old) (L.logs logs.new) result.1 }
+    ensures stops { IsTrue D.tells → OpensToTurn options.now (seen (D.history disk))
+        → StopsOfTurns (form_of (opened_bytes (seen (D.history disk)))) options.now plays.now (D.history disk) (D.history result.0) K.tells (result.1 ≡ Ok (Replied Played)) (Rose (D.faults disk) (D.faults result.0) → ⊥) (K.written output.old) (K.written output.new) }
+    ensures counted { CountedIf D.tells (D.faults disk) (D.faults result.0) (ending_of result.1) }
+    ensures cause { HasCause (K.faults output.old) (K.faults output.new) result.1 }
+    ensures asked { ending_of result.1 ≡ Usage → ⊥ }
+    ensures unread { of_input (ending_of result.1) ≡ false }
 {
-    let (world, _) = match load(alloc, disk, options, logs) {
+    let (world, _) = match World::load(alloc, disk, options, logs) {
         Ok(loaded) => loaded,
-        Err(halt) => return Ok(Ending::from(halt)),
+        Err((disk, halt)) => return (disk, Ok(Ending::from(halt))),
     };
-    match play_all(alloc, world, disk, plays, output, logs)? {
-        Ok(()) => Ok(Ending::Replied(Reply::Played)),
-        Err(Fault::Device) => Ok(Ending::DeviceFault),
-        Err(Fault::Memory) => Ok(Ending::NoMemory),
-        Err(Fault::Log) => Ok(Ending::LogFault),
-    }
+    let (disk, played) = play_all(alloc, world, plays, output, logs);
+    (disk, told(played))
 }
 
 /// Takes plays over the file of this name, and tells them.
@@ -95,8 +104,8 @@ fn play_on_file<F: Files, K: Sink, L: Logs>(
         Take::Existing
     };
     match files.take(alloc, name, how) {
-        Ok(mut disk) => {
-            let played = play_on_disk(alloc, options, plays, &mut disk, output, logs);
+        Ok(disk) => {
+            let (disk, played) = play_on_disk(alloc, options, plays, disk, output, logs);
             files.give(name, disk);
             played
         }

@@ -11,33 +11,33 @@ use Rattle.tdb_top.proofs.Coming.{ran_none, ran_on, ran_off, next_slice, slice_m
 use Rattle.tdb_top.proofs.playing.play_each.Goals as goal
 use Rattle.tdb_top.proofs.playing.play_each.Goals.{After-play_some}
 
-pub play_some-requires-clause-fits : goal.play_some-requires-clause-fits
-play_some-requires-clause-fits g c = c.loop-i.invariant.ran.fits
+pub play_some-requires-clause-unspent : goal.play_some-requires-clause-unspent
+play_some-requires-clause-unspent g c = c.loop-i.invariant.ran.unspent
 
 -- none was taken, and all were
 pub loop-i-init : goal.loop-i-init
 loop-i-init g c = record {
-  ran = ran_none g.D.Disk.tells g.K.Sink.tells (scene c.args.world.now (g.D.Disk.history c.args.disk.now) (g.D.Disk.size c.args.disk.now) (g.D.Disk.faults c.args.disk.now) (g.K.Sink.written c.args.output.now) (g.L.Logs.logs c.args.logs.now)) c.requires.fits;
+  ran = ran_none g.D.Disk.tells g.K.Sink.tells (scene c.args.world.now (g.K.Sink.written c.args.output.now) (g.L.Logs.logs c.args.logs.now)) c.requires.unspent;
   stops = stops_none g.D.Disk.tells g.K.Sink.tells
-      (scene c.args.world.now (g.D.Disk.history c.args.disk.now) (g.D.Disk.size c.args.disk.now) (g.D.Disk.faults c.args.disk.now) (g.K.Sink.written c.args.output.now) (g.L.Logs.logs c.args.logs.now));
+      (scene c.args.world.now (g.K.Sink.written c.args.output.now) (g.L.Logs.logs c.args.logs.now));
   out = refl;
 }
 
 pub returns-clause-ran : goal.returns-clause-ran
 returns-clause-ran g c =
-    subst (λ ps. Ran g.D.Disk.tells g.K.Sink.tells (scene c.args.world.now (g.D.Disk.history c.args.disk.now) (g.D.Disk.size c.args.disk.now) (g.D.Disk.faults c.args.disk.now) (g.K.Sink.written c.args.output.now) (g.L.Logs.logs c.args.logs.now))
-    (scene c.loop-i.world (g.D.Disk.history c.loop-i.disk) (g.D.Disk.size c.loop-i.disk) (g.D.Disk.faults c.loop-i.disk) (g.K.Sink.written c.loop-i.output) (g.L.Logs.logs c.loop-i.logs)) ps (Ok (Ok tt)))
+    subst (λ ps. Ran g.D.Disk.tells g.K.Sink.tells (scene c.args.world.now (g.K.Sink.written c.args.output.now) (g.L.Logs.logs c.args.logs.now))
+    (scene c.loop-i.world (g.K.Sink.written c.loop-i.output) (g.L.Logs.logs c.loop-i.logs)) ps (Ok (Ok tt)))
     (take_all c.loop-i.i c.args.plays.now c.loop-i-test.false) c.loop-i.invariant.ran
 
 -- before all plays, before the next one, and after it
 abbrev start : (g : _) (c : After-play_some g) → Scene
-start g c = scene c.args.world.now (g.D.Disk.history c.args.disk.now) (g.D.Disk.size c.args.disk.now) (g.D.Disk.faults c.args.disk.now) (g.K.Sink.written c.args.output.now) (g.L.Logs.logs c.args.logs.now)
+start g c = scene c.args.world.now (g.K.Sink.written c.args.output.now) (g.L.Logs.logs c.args.logs.now)
 
 abbrev mid : (g : _) (c : After-play_some g) → Scene
-mid g c = scene c.loop-i.world (g.D.Disk.history c.loop-i.disk) (g.D.Disk.size c.loop-i.disk) (g.D.Disk.faults c.loop-i.disk) (g.K.Sink.written c.loop-i.output) (g.L.Logs.logs c.loop-i.logs)
+mid g c = scene c.loop-i.world (g.K.Sink.written c.loop-i.output) (g.L.Logs.logs c.loop-i.logs)
 
 abbrev last : (g : _) (c : After-play_some g) → Scene
-last g c = scene c.play_some.new.world (g.D.Disk.history c.play_some.new.disk) (g.D.Disk.size c.play_some.new.disk) (g.D.Disk.faults c.play_some.new.disk) (g.K.Sink.written c.play_some.new.output) (g.L.Logs.logs c.play_some.new.logs)
+last g c = scene c.play_some.new.world (g.K.Sink.written c.play_some.new.output) (g.L.Logs.logs c.play_some.new.logs)
 
 -- the next one
 abbrev next : (g : _) (c : After-play_some g) → List Play
@@ -76,8 +76,8 @@ returns-in-Err-clause-stops g c =
 
 pub returns-clause-stops : goal.returns-clause-stops
 returns-clause-stops g c =
-    subst (λ ps. StopsTold g.D.Disk.tells g.K.Sink.tells (scene c.args.world.now (g.D.Disk.history c.args.disk.now) (g.D.Disk.size c.args.disk.now) (g.D.Disk.faults c.args.disk.now) (g.K.Sink.written c.args.output.now) (g.L.Logs.logs c.args.logs.now))
-    (scene c.loop-i.world (g.D.Disk.history c.loop-i.disk) (g.D.Disk.size c.loop-i.disk) (g.D.Disk.faults c.loop-i.disk) (g.K.Sink.written c.loop-i.output) (g.L.Logs.logs c.loop-i.logs)) ps (Ok (Ok tt)))
+    subst (λ ps. StopsTold g.D.Disk.tells g.K.Sink.tells (scene c.args.world.now (g.K.Sink.written c.args.output.now) (g.L.Logs.logs c.args.logs.now))
+    (scene c.loop-i.world (g.K.Sink.written c.loop-i.output) (g.L.Logs.logs c.loop-i.logs)) ps (Ok (Ok tt)))
     (take_all c.loop-i.i c.args.plays.now c.loop-i-test.false) c.loop-i.invariant.stops
 
 pub returns-in_err-play_some-clause-ran : goal.returns-in_err-play_some-clause-ran

@@ -7,9 +7,9 @@ use Rattle.tdb_top.proofs.playing.play_each.Given as goal
 
 abbrev pub invariant-loop-i : goal.invariant-loop-i
 invariant-loop-i g l = record {
-  ran : Ran g.D.Disk.tells g.K.Sink.tells (scene l.fn.world (g.D.Disk.history l.fn.disk) (g.D.Disk.size l.fn.disk) (g.D.Disk.faults l.fn.disk) (g.K.Sink.written l.fn.output) (g.L.Logs.logs l.fn.logs))
-      (scene l.world (g.D.Disk.history l.disk) (g.D.Disk.size l.disk) (g.D.Disk.faults l.disk) (g.K.Sink.written l.output) (g.L.Logs.logs l.logs)) (take l.i l.plays) (Ok (Ok tt));
-  stops : StopsTold g.D.Disk.tells g.K.Sink.tells (scene l.fn.world (g.D.Disk.history l.fn.disk) (g.D.Disk.size l.fn.disk) (g.D.Disk.faults l.fn.disk) (g.K.Sink.written l.fn.output) (g.L.Logs.logs l.fn.logs))
-      (scene l.world (g.D.Disk.history l.disk) (g.D.Disk.size l.disk) (g.D.Disk.faults l.disk) (g.K.Sink.written l.output) (g.L.Logs.logs l.logs)) (take l.i l.plays) (Ok (Ok tt));
+  ran : Ran g.D.Disk.tells g.K.Sink.tells (scene l.fn.world (g.K.Sink.written l.fn.output) (g.L.Logs.logs l.fn.logs))
+      (scene l.world (g.K.Sink.written l.output) (g.L.Logs.logs l.logs)) (take l.i l.plays) (Ok (Ok tt));
+  stops : StopsTold g.D.Disk.tells g.K.Sink.tells (scene l.fn.world (g.K.Sink.written l.fn.output) (g.L.Logs.logs l.fn.logs))
+      (scene l.world (g.K.Sink.written l.output) (g.L.Logs.logs l.logs)) (take l.i l.plays) (Ok (Ok tt));
   out : g.K.Sink.faults l.output ≡ g.K.Sink.faults l.fn.output;
 }

@@ -1,9 +1,11 @@
-use Rattle.std.proofs.Common.{◌≡◌, ◌≤◌, true, false, Err, None, refl, sym, ◌∙◌, ap, subst, inl, inr, arith, ◌<◌, List, ℕ}
+use Rattle.std.proofs.Common.{◌≡◌, ◌≤◌, true, false, Result, Ok, Err, None, refl, sym, ◌∙◌, ap, subst, inl, inr, arith, ◌<◌, List, ℕ}
 use Rattle.std.proofs.lemmas.Result.{IfErr-at_err}
-use Rattle.tdb_disk.specs.Count.{Rose}
+use Rattle.tdb_disk.specs.Count.{HasCauseOf, Rose}
+use Rattle.tdb_gen.specs.Taking.{UnlessIo}
+use Rattle.tdb_gen.specs.declared.fault.GenFault.{GenFault}
 use Rattle.tdb_gen.specs.declared.fault.GenFault.TheVariants as F
 use Rattle.tdb_cmdline.specs.declared.ask.Task.TheVariants.{Generate}
-use Rattle.tdb_top.specs.Commands.Generate.{of_gen}
+use Rattle.tdb_top.specs.Commands.Generate.{of_gen, FilledSo}
 use Rattle.tdb_top.specs.Ending.{task_failed, CountedIf}
 use Rattle.tdb_top.proofs.Acting.{rose_earlier}
 use Rattle.tdb_top.proofs.Held.{same_or_other}
@@ -23,6 +25,12 @@ back g c other = elim (same_or_other other c.args.name.now) [
   | inr apart ↦ c.give.ensures.taken_others other apart ∙ c.in-Ok.ensures.taken_others other apart ∙ c.requires.free other
 ]
 
+-- what was done on the disk, by its answer
+filled : (g : _) (c : After-give g) (answer : Result (List ℕ) GenFault) → c.fill-disk.result.1 ≡ answer → g.F.D.Disk.tells ≡ true
+    → FilledSo c.args.commands c.args.seed (g.F.D.Disk.history c.fill-disk.result.0) (g.L.Logs.logs c.args.logs.now) (g.L.Logs.logs c.fill-disk.new.logs) answer
+filled g c answer is told =
+    subst (FilledSo c.args.commands c.args.seed (g.F.D.Disk.history c.fill-disk.result.0) (g.L.Logs.logs c.args.logs.now) (g.L.Logs.logs c.fill-disk.new.logs)) is (c.fill-disk.ensures.generated told)
+
 -- the file wasn't taken
 pub returns-in-Err-clause-cause : goal.returns-in-Err-clause-cause
 returns-in-Err-clause-cause g c told =
@@ -39,13 +47,13 @@ returns-in-Err-clause-left g c told =
 pub returns-in-Ok-filled-clause-cause : goal.returns-in-Ok-filled-clause-cause
 returns-in-Ok-filled-clause-cause g c told =
     let a = (goal.at.returns-in-Ok-filled-clause-cause g c).After-give in
-    done_cause c.args.commands c.args.seed c.args.name.now (g.F.Files.held c.args.files.now c.args.name.now) _ _ (fresh g a told) c.in-Ok-filled.text (g.F.D.Disk.history c.fill-filled.new.disk) _ _ (c.in-Ok-filled.ensures.generated told)
+    done_cause c.args.commands c.args.seed c.args.name.now (g.F.Files.held c.args.files.now c.args.name.now) _ _ (fresh g a told) c.in-Ok-filled.text (g.F.D.Disk.history c.fill-disk.result.0) _ _ (filled g a (Ok c.in-Ok-filled.text) c.in-Ok-filled.is told)
 
 pub returns-in-Ok-filled-clause-left : goal.returns-in-Ok-filled-clause-left
 returns-in-Ok-filled-clause-left g c told =
     let a = (goal.at.returns-in-Ok-filled-clause-left g c).After-give in
-    done_left c.args.commands c.args.seed (g.F.Files.held c.args.files.now c.args.name.now) (g.F.Files.held c.give.new.self c.args.name.now) c.in-Ok-filled.text (g.F.D.Disk.history c.fill-filled.new.disk) _ _
-    (fresh g a told) (c.give.ensures.held told) (c.in-Ok-filled.ensures.generated told)
+    done_left c.args.commands c.args.seed (g.F.Files.held c.args.files.now c.args.name.now) (g.F.Files.held c.give.new.self c.args.name.now) c.in-Ok-filled.text (g.F.D.Disk.history c.fill-disk.result.0) _ _
+    (fresh g a told) (c.give.ensures.held told) (filled g a (Ok c.in-Ok-filled.text) c.in-Ok-filled.is told)
 
 pub returns-in-Err-clause-told : goal.returns-in-Err-clause-told
 returns-in-Err-clause-told g c told =
@@ -54,14 +62,15 @@ returns-in-Err-clause-told g c told =
 
 pub returns-in-Ok-filled-clause-told : goal.returns-in-Ok-filled-clause-told
 returns-in-Ok-filled-clause-told g c told =
-    done_heard c.args.commands c.args.seed _ _ c.in-Ok-filled.text (g.F.D.Disk.history c.fill-filled.new.disk) (g.F.Files.held c.give.new.self c.args.name.now) (c.give.ensures.held told) (c.in-Ok-filled.ensures.generated told)
+    let a = (goal.at.returns-in-Ok-filled-clause-told g c).After-give in
+    done_heard c.args.commands c.args.seed _ _ c.in-Ok-filled.text (g.F.D.Disk.history c.fill-disk.result.0) (g.F.Files.held c.give.new.self c.args.name.now) (c.give.ensures.held told) (filled g a (Ok c.in-Ok-filled.text) c.in-Ok-filled.is told)
 
 -- its disk failed
 pub returns-in-Err-Io-clause-cause : goal.returns-in-Err-Io-clause-cause
 returns-in-Err-Io-clause-cause g c told =
     let start = g.F.D.Disk.faults c.in-Ok.disk in
-    let last = g.F.D.Disk.faults c.fill-filled.new.disk in
-    let rose : Rose start last = IfErr-at_err (λ e. e ≡ F.Io → Rose start last) c.in-Err-Io.is (c.fill-filled.ensures.cause told).failed (rw c.in-Err-Io.is at c.in-Err-Io.field-0-is) in
+    let last = g.F.D.Disk.faults c.fill-disk.result.0 in
+    let rose : Rose start last = IfErr-at_err (λ e. e ≡ F.Io → Rose start last) c.in-Err-Io.is (c.fill-disk.ensures.cause told).failed (rw c.in-Err-Io.is at c.in-Err-Io.field-0-is) in
     let some : 0 < last = omega (arith, rose, c.in-Ok.ensures.disk_faults) in
     inl (task_failed (rose_earlier (g.F.Files.faults c.args.files.now) (g.F.Files.faults c.take.new.self) (g.F.Files.faults c.give.new.self) c.in-Ok.ensures.cause.never_falls (c.give.ensures.faulty some)))
 
@@ -76,11 +85,12 @@ returns-in-Ok-remove g c =
     let e = c.from.result in
     let is = c.from.ensures in
     let start = g.F.D.Disk.faults c.in-Ok.disk in
-    let last = g.F.D.Disk.faults c.fill-filled.new.disk in
+    let last = g.F.D.Disk.faults c.fill-disk.result.0 in
     let counted : CountedIf g.F.D.Disk.tells before after e = subst (λ n. CountedIf g.F.D.Disk.tells before n e) (sym c.in-Ok-remove.ensures.cause.done)
     (given_counted g.F.D.Disk.tells before (g.F.Files.faults c.take.new.self) given start last e
     c.in-Ok.ensures.cause.done c.in-Ok.ensures.disk_faults
-    (broken_counted g.F.D.Disk.tells start last r e is c.in-Err-filled.ensures.rises (λ told. (c.in-Err-filled.ensures.cause told).failed) c.in-Err-filled.ensures.quiet)
+    (broken_counted g.F.D.Disk.tells start last r e is c.fill-disk.ensures.rises
+    (λ told. (subst (HasCauseOf F.Io start last) c.in-Err-filled.is (c.fill-disk.ensures.cause told)).failed) (subst (λ r. UnlessIo r (last ≡ start)) c.in-Err-filled.is c.fill-disk.ensures.quiet))
     c.give.ensures.sound c.give.ensures.faulty c.give.ensures.faults) in
     record {
       cause = λ told. broken_cause c.args.commands c.args.seed c.args.name.now (g.F.Files.held c.args.files.now c.args.name.now) before after r e is (λ io. counted.failed (is ∙ ap of_gen io) told);
@@ -90,7 +100,7 @@ returns-in-Ok-remove g c =
       counted = counted;
       asked = broken_asked r e is;
       unread = broken_unread r e is;
-      told = λ told. broken_heard c.args.commands c.args.seed _ _ r e (g.F.D.Disk.history c.fill-filled.new.disk) (g.F.Files.held c.remove.new.self c.args.name.now) is (c.in-Err-filled.ensures.generated told);
+      told = λ told. broken_heard c.args.commands c.args.seed _ _ r e (g.F.D.Disk.history c.fill-disk.result.0) (g.F.Files.held c.remove.new.self c.args.name.now) is (filled g a (Err c.in-Err-filled.fault) c.in-Err-filled.is told);
     }
 
 -- it couldn't be removed
@@ -110,5 +120,5 @@ returns-in-Err-remove g c =
       counted = record { never_falls = omega (arith, later, c.in-Err-remove.ensures.cause.never_falls); failed = λ is told. rose; sound = λ other. absurd (other refl) };
       asked = λ is. cc;
       unread = refl;
-      told = λ told. kept_heard c.args.commands c.args.seed _ _ c.in-Err-filled.fault (g.F.D.Disk.history c.fill-filled.new.disk) (g.F.Files.held c.remove.new.self c.args.name.now) (c.in-Err-filled.ensures.generated told);
+      told = λ told. kept_heard c.args.commands c.args.seed _ _ c.in-Err-filled.fault (g.F.D.Disk.history c.fill-disk.result.0) (g.F.Files.held c.remove.new.self c.args.name.now) (filled g a (Err c.in-Err-filled.fault) c.in-Err-filled.is told);
     }

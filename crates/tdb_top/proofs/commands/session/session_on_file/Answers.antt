@@ -24,35 +24,35 @@ there g c told = held_there (g.F.Files.held c.args.files.now c.args.name.now) (b
 
 -- what the input had
 abbrev heard : (g : _) (c : After-give g) → Input
-heard g c = input_by g.S.Source.tells (g.S.Source.left c.args.input.now) (g.S.Source.faults c.args.input.now) (g.S.Source.faults c.session_on_disk-served.new.input)
+heard g c = input_by g.S.Source.tells (g.S.Source.left c.args.input.now) (g.S.Source.faults c.args.input.now) (g.S.Source.faults c.session_on_disk-disk.new.input)
 
 pub returns-in-Ok-clause-cause : goal.returns-in-Ok-clause-cause
 returns-in-Ok-clause-cause g c told =
     let a = (goal.at.returns-in-Ok-clause-cause g c).After-give in
     let before = g.F.Files.faults c.args.files.now in
     let now = g.F.Files.faults c.give.new.self in
-    let rose : ending_of c.session_on_disk-served.result ≡ DeviceFault → Rose before now = λ is.
-    (let failed = c.session_on_disk-served.ensures.counted.failed is told in
-    let some : 0 < g.F.D.Disk.faults c.session_on_disk-served.new.disk = omega (arith, failed, c.in-Ok.ensures.disk_faults) in
+    let rose : ending_of c.session_on_disk-disk.result.1 ≡ DeviceFault → Rose before now = λ is.
+    (let failed = c.session_on_disk-disk.ensures.counted.failed is told in
+    let some : 0 < g.F.D.Disk.faults c.session_on_disk-disk.result.0 = omega (arith, failed, c.in-Ok.ensures.disk_faults) in
     rose_earlier before (g.F.Files.faults c.take.new.self) now c.in-Ok.ensures.cause.never_falls (c.give.ensures.faulty some)) in
-    cause_session c.args.limit (heard g a) c.args.name.now (g.F.D.Disk.history c.in-Ok.disk) (g.F.D.Disk.history c.session_on_disk-served.new.disk) g.K.Sink.tells (g.K.Sink.written c.args.output.now) (g.K.Sink.written c.session_on_disk-served.new.output) (g.L.Logs.logs c.args.logs.now) (g.L.Logs.logs c.session_on_disk-served.new.logs)
-    (g.F.Files.held c.args.files.now c.args.name.now) (there g a told) before now c.session_on_disk-served.result (c.session_on_disk-served.ensures.served told) rose (λ is. c.session_on_disk-served.ensures.heard.failed is)
+    cause_session c.args.limit (heard g a) c.args.name.now (g.F.D.Disk.history c.in-Ok.disk) (g.F.D.Disk.history c.session_on_disk-disk.result.0) g.K.Sink.tells (g.K.Sink.written c.args.output.now) (g.K.Sink.written c.session_on_disk-disk.new.output) (g.L.Logs.logs c.args.logs.now) (g.L.Logs.logs c.session_on_disk-disk.new.logs)
+    (g.F.Files.held c.args.files.now c.args.name.now) (there g a told) before now c.session_on_disk-disk.result.1 (c.session_on_disk-disk.ensures.served told) rose (λ is. c.session_on_disk-disk.ensures.heard.failed is)
 
 pub returns-in-Ok-clause-began : goal.returns-in-Ok-clause-began
 returns-in-Ok-clause-began g c both =
     let a = (goal.at.returns-in-Ok-clause-began g c).After-give in
     let parts = and_parts g.K.Sink.tells g.F.D.Disk.tells both in
-    began_session c.args.limit (heard g a) c.args.name.now (g.F.D.Disk.history c.in-Ok.disk) (g.F.D.Disk.history c.session_on_disk-served.new.disk) g.K.Sink.tells (g.K.Sink.written c.args.output.now) (g.K.Sink.written c.session_on_disk-served.new.output) (g.L.Logs.logs c.args.logs.now) (g.L.Logs.logs c.session_on_disk-served.new.logs)
-    (g.F.Files.held c.args.files.now c.args.name.now) (there g a parts.1) parts.0 c.session_on_disk-served.result (c.session_on_disk-served.ensures.served parts.1)
+    began_session c.args.limit (heard g a) c.args.name.now (g.F.D.Disk.history c.in-Ok.disk) (g.F.D.Disk.history c.session_on_disk-disk.result.0) g.K.Sink.tells (g.K.Sink.written c.args.output.now) (g.K.Sink.written c.session_on_disk-disk.new.output) (g.L.Logs.logs c.args.logs.now) (g.L.Logs.logs c.session_on_disk-disk.new.logs)
+    (g.F.Files.held c.args.files.now c.args.name.now) (there g a parts.1) parts.0 c.session_on_disk-disk.result.1 (c.session_on_disk-disk.ensures.served parts.1)
 
 pub returns-in-Ok-clause-logged : goal.returns-in-Ok-clause-logged
 returns-in-Ok-clause-logged g c told =
     let a = (goal.at.returns-in-Ok-clause-logged g c).After-give in
     let logs = g.L.Logs.logs c.args.logs.now in
-    let later = g.L.Logs.logs c.session_on_disk-served.new.logs in
-    subst (λ o. SessionHeard c.args.limit o (ending_of c.session_on_disk-served.result) logs later) (sym (there g a told))
-    (file_heard c.args.limit (heard g a) (g.F.D.Disk.history c.in-Ok.disk) (g.F.D.Disk.history c.session_on_disk-served.new.disk) g.K.Sink.tells (g.K.Sink.written c.args.output.now) (g.K.Sink.written c.session_on_disk-served.new.output) logs later
-    c.session_on_disk-served.result (c.session_on_disk-served.ensures.served told))
+    let later = g.L.Logs.logs c.session_on_disk-disk.new.logs in
+    subst (λ o. SessionHeard c.args.limit o (ending_of c.session_on_disk-disk.result.1) logs later) (sym (there g a told))
+    (file_heard c.args.limit (heard g a) (g.F.D.Disk.history c.in-Ok.disk) (g.F.D.Disk.history c.session_on_disk-disk.result.0) g.K.Sink.tells (g.K.Sink.written c.args.output.now) (g.K.Sink.written c.session_on_disk-disk.new.output) logs later
+    c.session_on_disk-disk.result.1 (c.session_on_disk-disk.ensures.served told))
 
 -- the file wasn't taken
 pub returns-in-Err-clause-cause : goal.returns-in-Err-clause-cause

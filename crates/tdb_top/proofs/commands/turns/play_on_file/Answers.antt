@@ -31,32 +31,32 @@ there g c told = held_there (g.F.Files.held c.args.files.now c.args.name.now) (b
     (λ none. let wrong = (c.in-Ok.ensures.missing told).1 (none, not_new_given g c) in cc) (c.in-Ok.ensures.disk told)
 
 -- a call that failed on its disk counts among those of the files
-rose : (g : _) (c : After-give g) → Rose (g.F.D.Disk.faults c.in-Ok.disk) (g.F.D.Disk.faults c.play_on_disk-played.new.disk) → Rose (g.F.Files.faults c.args.files.now) (g.F.Files.faults c.give.new.self)
+rose : (g : _) (c : After-give g) → Rose (g.F.D.Disk.faults c.in-Ok.disk) (g.F.D.Disk.faults c.play_on_disk-disk.result.0) → Rose (g.F.Files.faults c.args.files.now) (g.F.Files.faults c.give.new.self)
 rose g c failed =
-    let some : 0 < g.F.D.Disk.faults c.play_on_disk-played.new.disk = omega (arith, failed, c.in-Ok.ensures.disk_faults) in
+    let some : 0 < g.F.D.Disk.faults c.play_on_disk-disk.result.0 = omega (arith, failed, c.in-Ok.ensures.disk_faults) in
     rose_earlier (g.F.Files.faults c.args.files.now) (g.F.Files.faults c.take.new.self) (g.F.Files.faults c.give.new.self) c.in-Ok.ensures.cause.never_falls (c.give.ensures.faulty some)
 
 pub returns-in-Ok-clause-cause : goal.returns-in-Ok-clause-cause
 returns-in-Ok-clause-cause g c told =
     let a = (goal.at.returns-in-Ok-clause-cause g c).After-give in
-    cause_played c.args.options.now c.args.name.now (g.F.D.Disk.history c.in-Ok.disk) (g.F.D.Disk.history c.play_on_disk-played.new.disk) c.args.plays.now g.K.Sink.tells (g.K.Sink.written c.args.output.now) (g.K.Sink.written c.play_on_disk-played.new.output) (g.L.Logs.logs c.args.logs.now) (g.L.Logs.logs c.play_on_disk-played.new.logs)
-    (g.F.Files.held c.args.files.now c.args.name.now) (there g a told) (g.F.Files.faults c.args.files.now) (g.F.Files.faults c.give.new.self) c.play_on_disk-played.result (c.play_on_disk-played.ensures.played told) (λ is. rose g a (c.play_on_disk-played.ensures.counted.failed is told))
+    cause_played c.args.options.now c.args.name.now (g.F.D.Disk.history c.in-Ok.disk) (g.F.D.Disk.history c.play_on_disk-disk.result.0) c.args.plays.now g.K.Sink.tells (g.K.Sink.written c.args.output.now) (g.K.Sink.written c.play_on_disk-disk.new.output) (g.L.Logs.logs c.args.logs.now) (g.L.Logs.logs c.play_on_disk-disk.new.logs)
+    (g.F.Files.held c.args.files.now c.args.name.now) (there g a told) (g.F.Files.faults c.args.files.now) (g.F.Files.faults c.give.new.self) c.play_on_disk-disk.result.1 (c.play_on_disk-disk.ensures.played told) (λ is. rose g a (c.play_on_disk-disk.ensures.counted.failed is told))
 
 pub returns-in-Ok-clause-left : goal.returns-in-Ok-clause-left
 returns-in-Ok-clause-left g c told =
-    left_played c.args.options.now c.args.name.now (g.F.D.Disk.history c.in-Ok.disk) (g.F.D.Disk.history c.play_on_disk-played.new.disk) c.args.plays.now g.K.Sink.tells (g.K.Sink.written c.args.output.now) (g.K.Sink.written c.play_on_disk-played.new.output) (g.L.Logs.logs c.args.logs.now) (g.L.Logs.logs c.play_on_disk-played.new.logs)
-    (g.F.Files.held c.args.files.now c.args.name.now) (there g ((goal.at.returns-in-Ok-clause-left g c).After-give) told) (g.F.Files.held c.give.new.self c.args.name.now) c.play_on_disk-played.result (c.give.ensures.held told) (c.play_on_disk-played.ensures.played told)
+    left_played c.args.options.now c.args.name.now (g.F.D.Disk.history c.in-Ok.disk) (g.F.D.Disk.history c.play_on_disk-disk.result.0) c.args.plays.now g.K.Sink.tells (g.K.Sink.written c.args.output.now) (g.K.Sink.written c.play_on_disk-disk.new.output) (g.L.Logs.logs c.args.logs.now) (g.L.Logs.logs c.play_on_disk-disk.new.logs)
+    (g.F.Files.held c.args.files.now c.args.name.now) (there g ((goal.at.returns-in-Ok-clause-left g c).After-give) told) (g.F.Files.held c.give.new.self c.args.name.now) c.play_on_disk-disk.result.1 (c.give.ensures.held told) (c.play_on_disk-disk.ensures.played told)
 
 pub returns-in-Ok-clause-began : goal.returns-in-Ok-clause-began
 returns-in-Ok-clause-began g c both =
     let parts = and_parts g.K.Sink.tells g.F.D.Disk.tells both in
-    began_played c.args.options.now c.args.name.now (g.F.D.Disk.history c.in-Ok.disk) (g.F.D.Disk.history c.play_on_disk-played.new.disk) c.args.plays.now g.K.Sink.tells (g.K.Sink.written c.args.output.now) (g.K.Sink.written c.play_on_disk-played.new.output) (g.L.Logs.logs c.args.logs.now) (g.L.Logs.logs c.play_on_disk-played.new.logs)
-    (g.F.Files.held c.args.files.now c.args.name.now) (there g ((goal.at.returns-in-Ok-clause-began g c).After-give) parts.1) c.play_on_disk-played.result parts.0 (c.play_on_disk-played.ensures.played parts.1)
+    began_played c.args.options.now c.args.name.now (g.F.D.Disk.history c.in-Ok.disk) (g.F.D.Disk.history c.play_on_disk-disk.result.0) c.args.plays.now g.K.Sink.tells (g.K.Sink.written c.args.output.now) (g.K.Sink.written c.play_on_disk-disk.new.output) (g.L.Logs.logs c.args.logs.now) (g.L.Logs.logs c.play_on_disk-disk.new.logs)
+    (g.F.Files.held c.args.files.now c.args.name.now) (there g ((goal.at.returns-in-Ok-clause-began g c).After-give) parts.1) c.play_on_disk-disk.result.1 parts.0 (c.play_on_disk-disk.ensures.played parts.1)
 
 pub returns-in-Ok-clause-whole : goal.returns-in-Ok-clause-whole
 returns-in-Ok-clause-whole g c told is =
-    all_played c.args.options.now c.args.name.now (g.F.D.Disk.history c.in-Ok.disk) (g.F.D.Disk.history c.play_on_disk-played.new.disk) c.args.plays.now g.K.Sink.tells (g.K.Sink.written c.args.output.now) (g.K.Sink.written c.play_on_disk-played.new.output) (g.L.Logs.logs c.args.logs.now) (g.L.Logs.logs c.play_on_disk-played.new.logs)
-    (g.F.Files.held c.args.files.now c.args.name.now) (there g ((goal.at.returns-in-Ok-clause-whole g c).After-give) told) (g.F.Files.held c.give.new.self c.args.name.now) c.play_on_disk-played.result (c.give.ensures.held told) (c.play_on_disk-played.ensures.played told) is
+    all_played c.args.options.now c.args.name.now (g.F.D.Disk.history c.in-Ok.disk) (g.F.D.Disk.history c.play_on_disk-disk.result.0) c.args.plays.now g.K.Sink.tells (g.K.Sink.written c.args.output.now) (g.K.Sink.written c.play_on_disk-disk.new.output) (g.L.Logs.logs c.args.logs.now) (g.L.Logs.logs c.play_on_disk-disk.new.logs)
+    (g.F.Files.held c.args.files.now c.args.name.now) (there g ((goal.at.returns-in-Ok-clause-whole g c).After-give) told) (g.F.Files.held c.give.new.self c.args.name.now) c.play_on_disk-disk.result.1 (c.give.ensures.held told) (c.play_on_disk-disk.ensures.played told) is
 
 pub returns-in-Ok-clause-stops : goal.returns-in-Ok-clause-stops
 returns-in-Ok-clause-stops g c told =
@@ -64,17 +64,17 @@ returns-in-Ok-clause-stops g c told =
     let held = g.F.Files.held c.args.files.now c.args.name.now in
     let given = g.F.Files.held c.give.new.self c.args.name.now in
     let before = g.K.Sink.written c.args.output.now in
-    let after = g.K.Sink.written c.play_on_disk-played.new.output in
-    let done = c.play_on_disk-played.result ≡ Ok (Replied Played) in
-    let sound : Type 0 = Rose (g.F.D.Disk.faults c.in-Ok.disk) (g.F.D.Disk.faults c.play_on_disk-played.new.disk) → ⊥ in
+    let after = g.K.Sink.written c.play_on_disk-disk.new.output in
+    let done = c.play_on_disk-disk.result.1 ≡ Ok (Replied Played) in
+    let sound : Type 0 = Rose (g.F.D.Disk.faults c.in-Ok.disk) (g.F.D.Disk.faults c.play_on_disk-disk.result.0) → ⊥ in
     let calm : Type 0 = Rose (g.F.Files.faults c.args.files.now) (g.F.Files.faults c.give.new.self) → ⊥ in
     stops_when c.args.options.now c.args.plays.now held given g.K.Sink.tells done sound done calm before after (λ so. so) (λ so failed. so (rose g a failed))
-    (held_stops c.args.options.now c.args.plays.now held given g.K.Sink.tells done sound (g.F.D.Disk.history c.in-Ok.disk) (g.F.D.Disk.history c.play_on_disk-played.new.disk) before after (there g a told) (c.give.ensures.held told) (c.play_on_disk-played.ensures.stops told))
+    (held_stops c.args.options.now c.args.plays.now held given g.K.Sink.tells done sound (g.F.D.Disk.history c.in-Ok.disk) (g.F.D.Disk.history c.play_on_disk-disk.result.0) before after (there g a told) (c.give.ensures.held told) (c.play_on_disk-disk.ensures.stops told))
 
 pub returns-in-Ok-clause-logged : goal.returns-in-Ok-clause-logged
 returns-in-Ok-clause-logged g c told =
-    heard_played c.args.options.now c.args.name.now (g.F.D.Disk.history c.in-Ok.disk) (g.F.D.Disk.history c.play_on_disk-played.new.disk) c.args.plays.now g.K.Sink.tells (g.K.Sink.written c.args.output.now) (g.K.Sink.written c.play_on_disk-played.new.output) (g.L.Logs.logs c.args.logs.now) (g.L.Logs.logs c.play_on_disk-played.new.logs)
-    (g.F.Files.held c.args.files.now c.args.name.now) (there g ((goal.at.returns-in-Ok-clause-logged g c).After-give) told) c.play_on_disk-played.result (c.play_on_disk-played.ensures.played told)
+    heard_played c.args.options.now c.args.name.now (g.F.D.Disk.history c.in-Ok.disk) (g.F.D.Disk.history c.play_on_disk-disk.result.0) c.args.plays.now g.K.Sink.tells (g.K.Sink.written c.args.output.now) (g.K.Sink.written c.play_on_disk-disk.new.output) (g.L.Logs.logs c.args.logs.now) (g.L.Logs.logs c.play_on_disk-disk.new.logs)
+    (g.F.Files.held c.args.files.now c.args.name.now) (there g ((goal.at.returns-in-Ok-clause-logged g c).After-give) told) c.play_on_disk-disk.result.1 (c.play_on_disk-disk.ensures.played told)
 
 -- the file wasn't taken
 pub returns-in-Err-clause-logged : goal.returns-in-Err-clause-logged
