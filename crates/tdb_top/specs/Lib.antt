@@ -14,3 +14,5 @@ pub mod Run
 pub mod Safe
 pub mod Stops
 pub mod SessionStops
+pub mod Outside
+pub mod Promise

@@ -19,9 +19,10 @@ ghost use Rattle.tdb_top.specs.Left.{Leaving};
 ghost use Rattle.tdb_top.specs.Looks.{ending_of, Began};
 ghost use Rattle.tdb_top.specs.Printed.{TextBefore, ask_tells, Finishes};
 ghost use Rattle.tdb_top.specs.Reads.{ask_reads};
-ghost use Rattle.tdb_top.specs.Run.{run_by, MayEnd, Answered, RefusesExactly, LeavesFiles, LogsAreTold, Accounted};
-ghost use Rattle.tdb_top.specs.SessionStops.{SessionsStopSafely};
-ghost use Rattle.tdb_top.specs.Stops.{StopsScripted, TurnsStopSafely};
+ghost use Rattle.tdb_top.specs.Outside.{outside};
+ghost use Rattle.tdb_top.specs.Promise.{RanAsPromised};
+ghost use Rattle.tdb_top.specs.Run.{MayEnd};
+ghost use Rattle.tdb_top.specs.Stops.{StopsScripted};
 
 use crate::answering::answer_ask;
 use crate::ending::{Ending, Status, Unprinted, print};
@@ -113,7 +114,7 @@ fn finish<K: Sink>(alloc: Global, answered: &Result<Ending, Unprinted>, output: 
 /// The commands `tool FILE show KEY`, `tool FILE insert KEY DATA` and `tool FILE check` open the file first: its
 /// length is tested and its header, what its undo area keeps is undone where the gate of that is open, and then the
 /// whole of it is checked. A show then follows the chain of the key, and reads the value. An insert follows the chain
-/// too, reads the chain's head, and then grows the file, writes the record and the head, and syncs: one call of each.
+/// too; where the key isn't there it stores the pair in a record of the free list, or grows the file by one, and syncs.
 /// The command `tool FILE create [SIZE [HASH [ORDER]]]` grows an empty file, writes its header and syncs.
 ///
 /// The command `dump [-k KEY] FILE` opens the file in the same way, but to read it alone: nothing is undone. Then it
@@ -157,33 +158,9 @@ pub fn run<F: Files, S: Source, K: Sink, L: Logs>(
     logs: &mut L,
 ) -> Status
     requires { (name : List ℕ) → F.is_taken files.old name ≡ false }
-
-    // The run ends in one way and prints the line of it, behind the text of a dump or of a report. Where the files tell
-    // what they hold it has its cause, and what is due is what is answered.
-    ensures answered { Answered F.D.tells (run_by words.now (F.held files.old) (F.held files.new) (F.faults files.old) (F.faults files.new) (input_by S.tells (S.left input.old) (S.faults input.old) (S.faults input.new)) (output_by K.tells (K.written output.old) (K.written output.new) (K.faults output.old) (K.faults output.new)) result.0) }
-
-    // A file is refused exactly where its bytes can't be opened.
-    ensures refused { IsTrue F.D.tells → RefusesExactly (run_by words.now (F.held files.old) (F.held files.new) (F.faults files.old) (F.faults files.new) (input_by S.tells (S.left input.old) (S.faults input.old) (S.faults input.new)) (output_by K.tells (K.written output.old) (K.written output.new) (K.faults output.old) (K.faults output.new)) result.0) }
-
-    // At most the file that is asked for changes, and what stands at the names of a backup or a verification, and they
-    // are left as the status says.
-    ensures left { IsTrue F.D.tells → LeavesFiles (run_by words.now (F.held files.old) (F.held files.new) (F.faults files.old) (F.faults files.new) (input_by S.tells (S.left input.old) (S.faults input.old) (S.faults input.new)) (output_by K.tells (K.written output.old) (K.written output.new) (K.faults output.old) (K.faults output.new)) result.0) (L.logs logs.old) (L.logs logs.new) }
-
-    // A stop at any moment of a run of turns leaves a file that opens to a map that their report passes, while nothing
-    // is changed outside a transaction. Unless a call of the files failed, that report tells the plays of the script as
-    // far as they came, and leads to the file that is left.
-    ensures stops { IsTrue F.D.tells → TurnsStopSafely (run_by words.now (F.held files.old) (F.held files.new) (F.faults files.old) (F.faults files.new) (input_by S.tells (S.left input.old) (S.faults input.old) (S.faults input.new)) (output_by K.tells (K.written output.old) (K.written output.new) (K.faults output.old) (K.faults output.new)) result.0) }
-
-    // A stop at any moment of a session leaves a file that opens to a map that its replies pass, while nothing is
-    // changed outside a transaction. Unless a call of the files failed, these lead to the file that is left.
-    ensures stopped { IsTrue F.D.tells → SessionsStopSafely (run_by words.now (F.held files.old) (F.held files.new) (F.faults files.old) (F.faults files.new) (input_by S.tells (S.left input.old) (S.faults input.old) (S.faults input.new)) (output_by K.tells (K.written output.old) (K.written output.new) (K.faults output.old) (K.faults output.new)) result.0) }
-
-    // The last log is told what becomes of the files, up to a notice that it refuses.
-    ensures told { IsTrue F.D.tells → LogsAreTold (run_by words.now (F.held files.old) (F.held files.new) (F.faults files.old) (F.faults files.new) (input_by S.tells (S.left input.old) (S.faults input.old) (S.faults input.new)) (output_by K.tells (K.written output.old) (K.written output.new) (K.faults output.old) (K.faults output.new)) result.0) (L.logs logs.old) (L.logs logs.new) }
-
-    // Whatever the files and the output tell: the usage comes exactly where the words ask for nothing, and each failed
-    // call is told.
-    ensures accounted { Accounted (run_by words.now (F.held files.old) (F.held files.new) (F.faults files.old) (F.faults files.new) (input_by S.tells (S.left input.old) (S.faults input.old) (S.faults input.new)) (output_by K.tells (K.written output.old) (K.written output.new) (K.faults output.old) (K.faults output.new)) result.0) }
+    ensures ran { RanAsPromised F.D.tells S.tells K.tells words.now result.0
+        (outside F.Files S.Source K.Sink L.Logs files.old input.old output.old logs.old)
+        (outside F.Files S.Source K.Sink L.Logs files.new input.new output.new logs.new) }
 
     // Every disk that was taken is given back, and the input isn't read but by a restore, by turns and by a session.
     ensures given_back { (name : List ℕ) → F.is_taken files.new name ≡ false }
