@@ -1,8 +1,10 @@
 //! Tests of the real files: what is made, read, renamed and removed, each refusal, and the streams, over the public
 //! calls of `tdb_files`.
 
+mod beneath;
 mod disks;
 mod folder;
+mod lock_tables;
 mod names;
 mod streams;
 mod takes;
@@ -19,6 +21,10 @@ fn real_files_are_taken_and_changed(rt: HostRuntime) {
         ("takes", takes::failing_take(rt)),
         ("takes beside others", takes::failing_beside(rt)),
         ("locks of taken files", takes::failing_lock(rt)),
+        ("takes of parts", takes::failing_part(rt)),
+        ("changes beneath", beneath::failing_change(rt)),
+        ("tables of locks", lock_tables::failing_table()),
+        ("names of processes", lock_tables::failing_name(rt)),
         ("second names", takes::failing_second_name(rt)),
         ("calls of disks", disks::failing_call(rt)),
         ("renames", names::failing_rename(rt)),

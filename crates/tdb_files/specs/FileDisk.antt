@@ -1,6 +1,7 @@
 -- What a contract sees of an open file: its length and the counts.
-use Rattle.std.specs.Prelude.{ℕ, IsSome}
+use Rattle.std.specs.Prelude.{ℕ}
 use Rattle.tdb_files.specs.Faults.{fault_count}
+use Rattle.tdb_files.specs.Guard.{IsBarred}
 use Rattle.tdb_files.specs.declared.file_disk.FileDisk.{FileDisk}
 
 -- the length in bytes
@@ -21,4 +22,4 @@ file_bytes_read disk = disk.bytes_read
 
 -- the file may be read and not changed
 abbrev pub MayNotBeWritten : FileDisk → Type 0
-MayNotBeWritten disk = IsSome disk.unwritable
+MayNotBeWritten disk = IsBarred disk.guard

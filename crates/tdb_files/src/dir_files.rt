@@ -7,10 +7,11 @@ use crate::faults::Faults;
 use crate::file_disk::FileDisk;
 use crate::file_fault::FileFault;
 use crate::identity::Identity;
+use crate::manner::Manner;
 use crate::opening::{Refusal, open};
 use crate::progress::Progress;
 use crate::reason::{Reason, is_missing};
-use crate::replacing::replace;
+use crate::replacing::{Access, replace};
 use std::alloc::{AllocError, Global};
 use std::collections::HashSet;
 use std::fs;
@@ -27,9 +28,28 @@ pub struct DirFiles {
     taken: HashSet<String>,
     identities: HashSet<Identity>,
     faults: Faults<FileFault>,
+    manner: Manner,
+
+    /// The file that is there and was taken last, until it is given back: a new file is a copy of it.
+    source: Option<(Identity, Access)>,
+
+    /// Why a file that was made didn't get its name, the last one.
+    unnamed: Option<FileFault>,
 
     /// Where a person is told what is read and written.
     progress: Option<Progress>,
+}
+
+/// Whose permissions a copy has that is made once this file is taken.
+fn source_of(
+    before: Option<(Identity, Access)>,
+    disk: &FileDisk,
+    how: Take,
+) -> Option<(Identity, Access)> {
+    if how == Take::New {
+        return before;
+    }
+    Some((disk.identity(), disk.access()?))
 }
 
 impl DirFiles {
@@ -45,8 +65,19 @@ impl DirFiles {
             taken: HashSet::new(rt.alloc()),
             identities: HashSet::new(rt.alloc()),
             faults: Faults::new(),
+            manner: Manner::new(),
+            source: None,
+            unnamed: None,
             progress: None,
         }
+    }
+
+    /// The same files, dealt with in this manner.
+    pub fn with_manner(self, manner: Manner) -> DirFiles
+        ensures taken { (name : List ℕ) → name_is_taken result name ≡ name_is_taken self name }
+        ensures faults { dir_faults result ≡ dir_faults self }
+    {
+        DirFiles { manner, ..self }
     }
 
     /// The same files, of which a person is told what is read and written, where there is a place for it.
@@ -62,6 +93,40 @@ impl DirFiles {
         ensures { IsSome result ↔ (0 < dir_faults self.now) }
     {
         self.faults.last()
+    }
+
+    /// Why the last of the new files that didn't get their names when they were given back got none. The count of
+    /// faults doesn't tell it; None where each got its name.
+    pub fn last_unnamed(&self) -> Option<&FileFault> {
+        self.unnamed.as_ref()
+    }
+
+    /// Forgets a file that is given back.
+    fn forget(&mut self, identity: Identity)
+        ensures taken { self.new.taken ≡ self.old.taken }
+        ensures faults { self.new.faults ≡ self.old.faults }
+    {
+        self.identities.remove(&identity);
+        if self.source.is_some_and(|(source, _)| source == identity) {
+            self.source = None;
+        }
+    }
+
+    /// Gives a new file its name, where it is whole, and else removes it.
+    fn publish(&mut self, disk: &FileDisk, name: &str, kept: Option<String>)
+        ensures { self.new ≡ record self.old { unnamed = self.new.unnamed } }
+    {
+        let Some(part) = disk.part() else {
+            return;
+        };
+        if disk.last_fault().is_some() {
+            part.discard(&self.rt);
+        } else if let Err(error) = part.publish(&self.rt, name) {
+            self.unnamed = Some(FileFault {
+                name: kept,
+                reason: error.into(),
+            });
+        }
     }
 
     /// The name is taken from here on.
@@ -128,9 +193,11 @@ impl Files for DirFiles {
     ) -> Result<WriteBehind<Cached<FileDisk>>, TakeRefusal> {
         self.identities.reserve(1)?;
         self.mark(alloc, name)?;
-        match open(&self.rt, name, how, &self.identities) {
+        let source = self.source.map(|(_, access)| access);
+        match open(&self.rt, name, how, self.manner, source, &self.identities) {
             Ok(disk) => {
                 self.identities.insert(disk.identity()).unwrap();
+                self.source = source_of(self.source, &disk, how);
                 let cached = Cached::new(alloc, disk.with_progress(self.progress));
                 Ok(match how {
                     Take::New => WriteBehind::of_empty(alloc, cached),
@@ -142,6 +209,7 @@ impl Files for DirFiles {
                 match refusal {
                     Refusal::Missing => Err(TakeRefusal::Missing),
                     Refusal::There => Err(TakeRefusal::There),
+                    Refusal::Memory => Err(TakeRefusal::Memory),
                     Refusal::Failed(reason) => {
                         self.fault(kept, reason);
                         Err(TakeRefusal::Failed)
@@ -151,20 +219,25 @@ impl Files for DirFiles {
         }
     }
 
-    /// What was written to a new file since its last sync is written as well as it can be. A failure of that isn't
-    /// told: no command answers Ok over a new file that it didn't sync.
+    /// What was written to a new file since its last sync is written as well as it can be, and the file gets its name
+    /// then. One of which a call failed is removed; a failure of that last write isn't told, as no command answers Ok
+    /// over a new file that it didn't sync.
     fn give(&mut self, name: &str, d: WriteBehind<Cached<FileDisk>>) {
         let kept = self.unmark(name);
-        let disk = d.inner().inner();
-        self.identities.remove(&disk.identity());
-        if let Some(reason) = disk.last_fault() {
-            self.fault(kept, reason);
+        let reason = d.inner().inner().last_fault();
+        let disk = d.finish().into_inner();
+        self.forget(disk.identity());
+        match reason {
+            None => self.publish(&disk, name, kept),
+            Some(reason) => {
+                self.publish(&disk, name, None);
+                self.fault(kept, reason);
+            }
         }
-        drop(d.finish());
     }
 
     fn rename(&mut self, from: &str, to: &str) -> Result<(), FilesFault> {
-        let answer = replace(&self.rt, from, to).map_err(Reason::from);
+        let answer = replace(&self.rt, from, to, self.manner);
         self.count(to, answer)
     }
 

@@ -3,11 +3,15 @@ ghost use Rattle.std.specs.Prelude.{◌≡◌, ◌+◌, ◌^◌, ◌<◌, ◌≤
 ghost use Rattle.std.proofs.lemmas.Bool.{false≢true};
 ghost use Rattle.tdb_disk.specs.Count.{HasCause};
 ghost use Rattle.tdb_disk.specs.History.{began};
+ghost use Rattle.tdb_files.specs.Guard.{IsBarred};
 
 use crate::faults::Faults;
+use crate::guard::Guard;
 use crate::identity::Identity;
+use crate::part::Part;
 use crate::progress::{Passing, Progress};
 use crate::reason::Reason;
+use crate::replacing::Access;
 use std::fs::File;
 use std::os::unix::fs::FileExt;
 use tdb_disk::{Disk, DiskFault};
@@ -20,8 +24,9 @@ static ZEROS: [u8; 65536] = [0; 65536];
 pub struct FileDisk {
     file: File,
     identity: Identity,
-    /// Why it may not be changed; None where it may.
-    unwritable: Option<Reason>,
+    guard: Guard,
+    /// What it is called until it gets its name; None for one that has it.
+    part: Option<Part>,
     len: u64,
     faults: Faults<Reason>,
     syncs: u64,
@@ -39,18 +44,21 @@ impl FileDisk {
     pub(crate) fn new(
         file: File,
         identity: Identity,
-        unwritable: Option<Reason>,
+        guard: Guard,
+        part: Option<Part>,
         len: u64,
     ) -> FileDisk
         ensures len { file_len result ≡ len }
         ensures faults { file_faults result ≡ 0 }
         ensures syncs { file_syncs result ≡ 0 }
         ensures bytes_read { file_bytes_read result ≡ 0 }
+        ensures barred { IsBarred guard → MayNotBeWritten result }
     {
         FileDisk {
             file,
             identity,
-            unwritable,
+            guard,
+            part,
             len,
             faults: Faults::new(),
             syncs: 0,
@@ -81,6 +89,11 @@ impl FileDisk {
         self.identity
     }
 
+    /// Who may use the file; None where the system doesn't tell it.
+    pub(crate) fn access(&self) -> Option<Access> {
+        Some(Access::of(&self.file.metadata().ok()?))
+    }
+
     /// Why the last call that failed did; None where none did.
     pub(crate) fn last_fault(&self) -> Option<Reason>
         ensures { IsSome result ↔ (0 < file_faults self.now) }
@@ -88,14 +101,9 @@ impl FileDisk {
         self.faults.last().copied()
     }
 
-    /// The file may be changed.
-    fn check_writable(&self) -> Result<(), Reason>
-        ensures { MayNotBeWritten self.now → IsErr result }
-    {
-        match self.unwritable {
-            None => Ok(()),
-            Some(reason) => Err(reason),
-        }
+    /// What the file is called until it gets its name; None for one that has it.
+    pub(crate) fn part(&self) -> Option<&Part> {
+        self.part.as_ref()
     }
 
     /// Counts a call that failed.
@@ -114,36 +122,50 @@ impl FileDisk {
     }
 
     /// Writes all the bytes from an offset on, if the file may be changed.
-    fn put(&self, off: u64, bytes: &[u8]) -> Result<(), Reason>
+    fn put(&mut self, off: u64, bytes: &[u8]) -> Result<(), Reason>
         requires { off + length bytes.now < 2 ^ 64 }
-        ensures { MayNotBeWritten self.now → IsErr result }
+        ensures barred { MayNotBeWritten self.old → IsErr result }
+        ensures rest { self.new ≡ record self.old { guard = self.new.guard } }
     {
-        self.check_writable()?;
-        put(&self.file, off, bytes)
+        self.guard.before_change(&self.file)?;
+        let answer = put(&self.file, off, bytes);
+        self.guard.after_bytes(&self.file);
+        answer
     }
 
     /// Sets the length of the file, if it may be changed.
-    fn set_len(&self, to: u64) -> Result<(), Reason>
-        ensures { MayNotBeWritten self.now → IsErr result }
+    fn set_len(&mut self, to: u64) -> Result<(), Reason>
+        ensures barred { MayNotBeWritten self.old → IsErr result }
+        ensures rest { self.new ≡ record self.old { guard = self.new.guard } }
     {
-        self.check_writable()?;
-        self.file.set_len(to)?;
-        Ok(())
+        self.guard.before_change(&self.file)?;
+        let answer = self.file.set_len(to).map_err(Reason::from);
+        self.guard.after_length(&self.file);
+        answer
     }
 
     /// Makes the file longer, and writes the zeros, so that no later write there finds the medium full. Where that
     /// fails it gets its old length again.
-    fn extend(&self, to: u64) -> Result<(), Reason>
-        requires { file_len self.now ≤ to }
-        ensures { MayNotBeWritten self.now → IsErr result }
+    fn extend(&mut self, to: u64) -> Result<(), Reason>
+        requires { file_len self.old ≤ to }
+        ensures barred { MayNotBeWritten self.old → IsErr result }
+        ensures rest { self.new ≡ record self.old { guard = self.new.guard } }
     {
-        self.set_len(to)?;
-        let answer = put_zeros(&self.file, self.len, to);
-        if answer.is_err() {
-            // Where this fails too, the answer is the same.
-            let _ = self.set_len(self.len);
-        }
+        self.guard.before_change(&self.file)?;
+        let answer = lengthen(&self.file, self.len, to);
+        self.guard.after_length(&self.file);
         answer
+    }
+
+    /// Brings the file to the medium. Where it was changed since it was brought there last, it is looked at before.
+    fn bring(&mut self) -> Result<(), Reason>
+        ensures barred { MayNotBeWritten self.old → MayNotBeWritten self.new }
+        ensures rest { self.new ≡ record self.old { guard = self.new.guard } }
+    {
+        self.guard.before_sync(&self.file)?;
+        self.file.sync_all()?;
+        self.guard.after_sync(&self.file);
+        Ok(())
     }
 }
 
@@ -189,6 +211,19 @@ fn put_zeros(file: &File, from: u64, to: u64) -> Result<(), Reason>
         at += len;
     }
     Ok(())
+}
+
+/// Makes a file longer, and writes the zeros. Where that fails it gets its old length again.
+fn lengthen(file: &File, from: u64, to: u64) -> Result<(), Reason>
+    requires { from ≤ to }
+{
+    file.set_len(to)?;
+    let answer = put_zeros(file, from, to);
+    if answer.is_err() {
+        // Where this fails too, the answer is the same.
+        let _ = file.set_len(from);
+    }
+    answer
 }
 
 impl Disk for FileDisk {
@@ -245,7 +280,7 @@ impl Disk for FileDisk {
     }
 
     fn sync(&mut self) -> Result<(), DiskFault> {
-        let answer = self.file.sync_all().map_err(Reason::from);
+        let answer = self.bring();
         self.count(answer)?;
         self.syncs = self.syncs.saturating_add(1);
         Ok(())

@@ -10,7 +10,24 @@ pub struct Identity {
     inode: u64,
 }
 
+/// Linux's number of a device.
+const fn device_number(major: u32, minor: u32) -> u64 {
+    let (major, minor) = (major as u64, minor as u64);
+    ((major & 0xffff_f000) << 32)
+        | ((major & 0xfff) << 8)
+        | ((minor & 0xffff_ff00) << 12)
+        | (minor & 0xff)
+}
+
 impl Identity {
+    /// The file with this number on the device with these ones.
+    pub const fn on_device(major: u32, minor: u32, inode: u64) -> Identity {
+        Identity {
+            device: device_number(major, minor),
+            inode,
+        }
+    }
+
     /// The file that this was found of.
     pub(crate) fn of(found: &Metadata) -> Identity {
         Identity {

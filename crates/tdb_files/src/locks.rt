@@ -16,22 +16,36 @@ pub(crate) enum LockKind {
     Exclusive,
 }
 
-/// How often a lock is tried: for about a second.
-const TRIES: u32 = 200;
+/// The first pauses between two tries, in milliseconds.
+const FIRST_PAUSES: [u64; 5] = [1, 2, 4, 10, 33];
 
-/// The pause between two tries, in milliseconds.
-const PAUSE: u64 = 5;
+/// The pause between two later tries, in milliseconds.
+const PAUSE: u64 = 50;
+
+/// The later tries of a second.
+const TRIES: u64 = 20;
+
+/// The pause before the try with this number, counted from 0.
+fn pause_before(turn: u64) -> Duration {
+    let first = FIRST_PAUSES.get(turn as usize);
+    Duration::from_millis(first.copied().unwrap_or(PAUSE))
+}
 
 /// Locks a file until it is closed. Where another open of the file has a lock that forbids it, it is tried again for
-/// about a second. Costs one call of the system a try.
-pub(crate) fn lock(rt: &impl Clock, file: &File, kind: LockKind) -> Result<(), Reason> {
-    for _ in 0..TRIES {
+/// about so many seconds, with pauses that grow to 50 ms. Costs one call of the system a try.
+pub(crate) fn lock(
+    rt: &impl Clock,
+    file: &File,
+    kind: LockKind,
+    seconds: u32,
+) -> Result<(), Reason> {
+    for turn in 0..u64::from(seconds) * TRIES {
         match try_lock(file, kind) {
-            Err(Reason::InUse) => thread::sleep(rt, Duration::from_millis(PAUSE)),
+            Err(Reason::InUse) => thread::sleep(rt, pause_before(turn)),
             answer => return answer,
         }
     }
-    Err(Reason::InUse)
+    try_lock(file, kind)
 }
 
 /// Locks a file where no other open of it has a lock that forbids it.

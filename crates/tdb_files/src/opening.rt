@@ -1,19 +1,24 @@
 //! How a file is opened or made, and kept from other runs of the program until it is closed.
-ghost use Rattle.std.specs.Prelude.{◌≡◌, ◌≢◌, IfOk, IsErrOf};
+ghost use Rattle.std.specs.Prelude.{◌≡◌, ◌≢◌, false, IfOk, IsErrOf, IsSome};
 ghost use Rattle.tdb_disk.specs.declared.files.Take.TheVariants as mode;
 ghost use Rattle.tdb_files.specs.FileDisk.{file_len, file_faults, file_syncs, file_bytes_read};
 ghost use Rattle.tdb_files.specs.declared.opening.Refusal.TheVariants as refusal;
 
 use crate::file_disk::FileDisk;
-use crate::folder::sync_folder;
+use crate::guard::Guard;
+use crate::holder::Holder;
 use crate::identity::Identity;
 use crate::locks::{LockKind, lock};
+use crate::manner::Manner;
+use crate::others::{find_locker, find_open, find_part_locker};
+use crate::part::{Part, is_free};
 use crate::reason::Reason;
+use crate::replacing::Access;
+use crate::stamp::Stamp;
 use std::collections::HashSet;
-use std::fs::{self, File, OpenOptions, Permissions};
+use std::fs::{self, File, Metadata, OpenOptions};
 use std::io;
 use std::os::fd::AsRawFd;
-use std::os::unix::fs::{OpenOptionsExt, PermissionsExt};
 use tdb_disk::Take;
 
 /// Why a file isn't taken.
@@ -25,10 +30,9 @@ pub enum Refusal {
     There,
     /// A call failed.
     Failed(Reason),
+    /// There was no memory.
+    Memory,
 }
-
-/// The permissions of a new file: its owner may read and write it, and nobody else.
-const NEW_MODE: u32 = 0o600;
 
 /// Descriptors up to this one are those of the standard streams.
 const LAST_STANDARD: i32 = 2;
@@ -62,12 +66,31 @@ fn open_readable(
     }
 }
 
+/// Locks a file for this kind of use. Where another run of the program keeps it locked, that one is named, if it is
+/// known.
+fn lock_as(
+    rt: &HostRuntime,
+    file: &File,
+    identity: Identity,
+    kind: LockKind,
+    manner: Manner,
+) -> Result<(), Reason> {
+    match lock(rt, file, kind, manner.seconds) {
+        Err(Reason::InUse) => match find_locker(rt, identity) {
+            Some(holder) => Err(Reason::Elsewhere(holder)),
+            None => Err(Reason::InUse),
+        },
+        answer => answer,
+    }
+}
+
 /// Locks a regular file that isn't taken yet, and sees that it still has its name then.
 fn claim(
     rt: &HostRuntime,
     name: &str,
     file: &File,
     kind: LockKind,
+    manner: Manner,
     taken: &HashSet<Identity>,
 ) -> Result<Identity, Reason> {
     let found = file.metadata()?;
@@ -78,11 +101,30 @@ fn claim(
     if taken.contains(&identity) {
         return Err(Reason::TakenTwice);
     }
-    lock(rt, file, kind)?;
+    lock_as(rt, file, identity, kind, manner)?;
     if Identity::of(&fs::metadata(rt, name)?) != identity {
         return Err(Reason::InUse);
     }
     Ok(identity)
+}
+
+/// Says on standard error that another program has the file open. What can't be said there is left out.
+fn warn(rt: &HostRuntime, name: &str, holder: Holder) {
+    let _ = eprintln!(rt;
+        "tdb: warning: {name}: {holder} has the file open: what is read may be half of a change"
+    );
+}
+
+/// Why a file may not be changed, if it may not: for the reason that is known already, or since another program has it
+/// open and it isn't to be shared.
+fn bar(known: Option<Reason>, other: Option<Holder>, is_shared: bool) -> Option<Reason>
+    ensures known { IsSome known → IsSome result }
+    ensures other { IsSome other → is_shared ≡ false → IsSome result }
+{
+    match other {
+        Some(holder) if known.is_none() && !is_shared => Some(Reason::Elsewhere(holder)),
+        _ => known,
+    }
 }
 
 /// Opens a regular file that is there. Nothing else is opened: to open a pipe might wait.
@@ -90,6 +132,7 @@ fn open_existing(
     rt: &HostRuntime,
     name: &str,
     writable: bool,
+    manner: Manner,
     taken: &HashSet<Identity>,
 ) -> Result<FileDisk, Reason>
     ensures faults { IfOk result (λ d. file_faults d ≡ 0) }
@@ -101,67 +144,82 @@ fn open_existing(
     }
     let (file, unwritable) = open_readable(rt, name, writable)?;
     let file = above_standard(file)?;
-    let kind = if writable && unwritable.is_none() {
+    let kind = if writable && unwritable.is_none() && !manner.reads_first {
         LockKind::Exclusive
     } else {
         LockKind::Shared
     };
-    let identity = claim(rt, name, &file, kind, taken)?;
-    let len = file.metadata()?.len();
-    Ok(FileDisk::new(file, identity, unwritable, len))
+    // The long look comes before the lock, so that no other run waits for it.
+    let opener = find_open(rt, Identity::of(&file.metadata()?));
+    let identity = claim(rt, name, &file, kind, manner, taken)?;
+    let other = find_part_locker(rt, identity).or(opener);
+    if let Some(holder) = other
+        && manner.warns
+    {
+        warn(rt, name, holder);
+    }
+    let unwritable = bar(unwritable, other, manner.is_shared);
+    let found = file.metadata()?;
+    let guard = Guard::new(*rt, Stamp::of(&found), unwritable, kind, manner.seconds);
+    Ok(FileDisk::new(file, identity, guard, None, found.len()))
 }
 
-/// Locks a file that was just made, and syncs its folder, so that the name is on the medium; a folder that may not be
-/// opened, or whose file system can't sync it, is left to the system. Where another run has locked the file before, or
-/// a program has written to it, it is theirs.
-fn claim_new(
-    rt: &HostRuntime,
-    name: &str,
-    file: File,
-    taken: &HashSet<Identity>,
-) -> Result<FileDisk, Reason>
-    ensures len { IfOk result (λ d. file_len d ≡ 0) }
-    ensures faults { IfOk result (λ d. file_faults d ≡ 0) }
-    ensures syncs { IfOk result (λ d. file_syncs d ≡ 0) }
-    ensures bytes_read { IfOk result (λ d. file_bytes_read d ≡ 0) }
+/// How often a new file is tried to be made, where other runs make the same one.
+const TRIES: u32 = 100;
+
+/// Makes a new file under the name that it has until it is whole, and locks it.
+fn make_part(rt: &HostRuntime, part: &Part, name: &str, manner: Manner) -> Result<File, Refusal>
+    ensures { IsErrOf result refusal.Missing → ⊥ }
 {
-    let file = above_standard(file)?;
-    file.set_permissions(Permissions::from_mode(NEW_MODE))?;
-    let identity = claim(rt, name, &file, LockKind::Exclusive, taken)?;
-    if file.metadata()?.len() > 0 {
-        return Err(Reason::InUse);
+    for _ in 0..TRIES {
+        match is_free(rt, name) {
+            Ok(true) => {}
+            Ok(false) => return Err(Refusal::There),
+            Err(error) => return Err(Refusal::Failed(error.into())),
+        }
+        match part.try_make(rt, manner.seconds) {
+            Ok(Some(file)) => return Ok(file),
+            Ok(None) => {}
+            Err(reason) => return Err(Refusal::Failed(reason)),
+        }
     }
-    sync_folder(rt, name)?;
-    Ok(FileDisk::new(file, identity, None, 0))
+    Err(Refusal::Failed(Reason::InUse))
+}
+
+/// A file that was just made, above the standard streams, and what the system tells of it.
+fn raise_new(file: File) -> io::Result<(File, Metadata)> {
+    let file = above_standard(file)?;
+    let found = file.metadata()?;
+    Ok((file, found))
 }
 
 /// Makes a file where nothing has the name, not even a link. Only its owner may read and write it, whatever the process
-/// takes away from new files. After an Err it isn't there, unless another program uses it.
-fn make_new(rt: &HostRuntime, name: &str, taken: &HashSet<Identity>) -> Result<FileDisk, Refusal>
+/// takes away from new files. It gets its name once it is given back; after an Err nothing is left.
+fn make_new(
+    rt: &HostRuntime,
+    name: &str,
+    manner: Manner,
+    source: Option<Access>,
+) -> Result<FileDisk, Refusal>
     ensures missing { IsErrOf result refusal.Missing → ⊥ }
     ensures len { IfOk result (λ d. file_len d ≡ 0) }
     ensures faults { IfOk result (λ d. file_faults d ≡ 0) }
     ensures syncs { IfOk result (λ d. file_syncs d ≡ 0) }
     ensures bytes_read { IfOk result (λ d. file_bytes_read d ≡ 0) }
 {
-    let made = OpenOptions::new()
-        .read(true)
-        .write(true)
-        .create_new(true)
-        .mode(NEW_MODE)
-        .open(rt, name);
-    let file = match made {
-        Ok(file) => file,
-        Err(error) if error.kind() == io::ErrorKind::AlreadyExists => return Err(Refusal::There),
-        Err(error) => return Err(Refusal::Failed(error.into())),
+    let Ok(part) = Part::of(rt.alloc(), name, source) else {
+        return Err(Refusal::Memory);
     };
-    match claim_new(rt, name, file, taken) {
-        Ok(disk) => Ok(disk),
-        Err(Reason::InUse) => Err(Refusal::Failed(Reason::InUse)),
-        Err(reason) => {
-            // Where it can't be removed, it stays empty.
-            let _ = fs::remove_file(rt, name);
-            Err(Refusal::Failed(reason))
+    let file = make_part(rt, &part, name, manner)?;
+    match raise_new(file) {
+        Ok((file, found)) => {
+            let stamp = Stamp::of(&found);
+            let guard = Guard::new(*rt, stamp, None, LockKind::Exclusive, manner.seconds);
+            Ok(FileDisk::new(file, Identity::of(&found), guard, Some(part), 0))
+        }
+        Err(error) => {
+            part.discard(rt);
+            Err(Refusal::Failed(error.into()))
         }
     }
 }
@@ -172,6 +230,8 @@ pub(crate) fn open(
     rt: &HostRuntime,
     name: &str,
     how: Take,
+    manner: Manner,
+    source: Option<Access>,
     taken: &HashSet<Identity>,
 ) -> Result<FileDisk, Refusal>
     ensures missing { IsErrOf result refusal.Missing → how ≢ mode.New }
@@ -183,12 +243,12 @@ pub(crate) fn open(
 {
     match how {
         Take::Existing | Take::ReadOnly => {
-            match open_existing(rt, name, how == Take::Existing, taken) {
+            match open_existing(rt, name, how == Take::Existing, manner, taken) {
                 Ok(disk) => Ok(disk),
                 Err(reason) if reason.is_missing() => Err(Refusal::Missing),
                 Err(reason) => Err(Refusal::Failed(reason)),
             }
         }
-        Take::New => make_new(rt, name, taken),
+        Take::New => make_new(rt, name, manner, source),
     }
 }

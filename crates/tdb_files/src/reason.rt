@@ -1,5 +1,6 @@
 //! Why a call of the system failed, or why a file wasn't used.
 
+use crate::holder::Holder;
 use std::io::Write;
 use std::str::from_utf8;
 use std::{fmt, io};
@@ -17,6 +18,12 @@ pub enum Reason {
     /// It is locked, or was made or replaced by another program in the meantime.
     #[error("another program uses the file")]
     InUse,
+    /// Another program has it open, or locked.
+    #[error("{0} has the file open")]
+    Elsewhere(Holder),
+    /// It isn't as this run left it.
+    #[error("the file was changed by another program")]
+    Changed,
     /// It is taken already, under another name.
     #[error("the file is in use under another name")]
     TakenTwice,

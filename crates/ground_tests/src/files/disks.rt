@@ -7,6 +7,9 @@ use tdb_files::DirFiles;
 
 const FILE: &str = "tdb_files_test/disk";
 
+/// The name of the file while it is new.
+const PART: &str = "tdb_files_test/disk.tdb-new";
+
 #[derive(Clone, Copy)]
 enum Call {
     Grow(u64),
@@ -115,11 +118,12 @@ fn is_done<D: Disk>(disk: &mut D, call: Call) -> Option<bool> {
 /// The first call that doesn't go so.
 fn failing_step<D: Disk>(
     rt: HostRuntime,
+    path: &str,
     disk: &mut D,
     steps: &[(&'static str, Step)],
 ) -> Option<&'static str> {
     for (name, (call, done, kept)) in steps {
-        if is_done(disk, *call) != Some(*done) || !has(rt, FILE, kept) {
+        if is_done(disk, *call) != Some(*done) || !has(rt, path, kept) {
             return Some(*name);
         }
     }
@@ -157,11 +161,17 @@ fn failing_of(rt: HostRuntime, name: &'static str, case: &Case) -> Option<&'stat
     let Ok(mut disk) = files.take(rt.alloc(), FILE, how_taken(rt, case.how)) else {
         return Some(name);
     };
-    let has_mode = matches!(mode_of(rt, FILE), Ok(mode) if mode == case.mode);
-    let failing = failing_step(rt, &mut disk, case.steps);
+    let path = match case.how {
+        Take::New => PART,
+        _ => FILE,
+    };
+    let has_mode = matches!(mode_of(rt, path), Ok(mode) if mode == case.mode);
+    let failing = failing_step(rt, path, &mut disk, case.steps);
     let is_shown = shows(&mut disk, case.left);
     files.give(FILE, disk);
-    if failing.is_none() && !(has_mode && is_shown && has(rt, FILE, &case.left)) {
+    if failing.is_none()
+        && !(has_mode && is_shown && has(rt, FILE, &case.left) && !has(rt, PART, &case.left))
+    {
         return Some(name);
     }
     failing

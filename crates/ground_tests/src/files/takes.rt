@@ -1,12 +1,12 @@
 // Takes of files, and what a user is told where a file isn't taken.
 
-use crate::files::folder::{FOLDER, lay};
+use crate::files::folder::{FOLDER, has, lay};
 use crate::files::takes::Answer::{Failed, Missing, Taken, There};
-use std::fs::{File, OpenOptions};
+use std::fs::{self, File, OpenOptions};
 use std::io;
 use std::os::unix::fs::symlink;
 use tdb_disk::{Files, Take, TakeRefusal};
-use tdb_files::DirFiles;
+use tdb_files::{DirFiles, Manner};
 
 /// A file that may only be read.
 const KEPT: &str = "tdb_files_test/kept";
@@ -53,9 +53,17 @@ fn is_answer(
     refusal == want && tells(rt, files, text)
 }
 
+/// Files that wait for no other run.
+fn impatient(rt: HostRuntime) -> DirFiles {
+    DirFiles::new(rt).with_manner(Manner {
+        seconds: 0,
+        ..Manner::new()
+    })
+}
+
 /// Whether a take of a file gives this answer. The file is given back.
 fn answers(rt: HostRuntime, name: &str, how: Take, want: Answer) -> bool {
-    let mut files = DirFiles::new(rt);
+    let mut files = impatient(rt);
     let refusal = match files.take(rt.alloc(), name, how) {
         Ok(disk) => {
             files.give(name, disk);
@@ -227,6 +235,47 @@ fn beside_holds(rt: HostRuntime, row: &TakeBeside) -> io::Result<bool> {
 pub(crate) fn failing_beside(rt: HostRuntime) -> Option<&'static str> {
     for (label, row) in &TAKES_BESIDE {
         if !matches!(beside_holds(rt, row), Ok(true)) {
+            return Some(*label);
+        }
+    }
+    None
+}
+
+/// A file that is made, and its name until it is whole.
+const MADE: &str = "tdb_files_test/made";
+
+const PART: &str = "tdb_files_test/made.tdb-new";
+
+/// Whether another run has a lock on the part of the file that is to be made, what a take of it answers, and whether
+/// the part stays.
+type TakePart = (bool, Answer, bool);
+
+static TAKES_OF_PARTS: [(&'static str, TakePart); 2] = [
+    (
+        "the part of a run that goes on",
+        (
+            true,
+            Failed("tdb_files_test/made: another program uses the file"),
+            true,
+        ),
+    ),
+    ("the part of a run that was killed", (false, Taken, false)),
+];
+
+/// Whether the take of a file goes so of which a part is there.
+fn part_holds(rt: HostRuntime, row: &TakePart) -> io::Result<bool> {
+    let (is_locked, want, stays) = *row;
+    lay(rt, PART, b"part", 0o600)?;
+    let other = OpenOptions::new().write(true).open(&rt, PART)?;
+    let is_ready = !is_locked || gets_lock(&other, Lock::Exclusive);
+    let is_answered = answers(rt, MADE, Take::New, want);
+    Ok(is_ready && is_answered && fs::exists(&rt, PART)? == stays && has(rt, MADE, b"") != stays)
+}
+
+/// The first take of a file of which a part is there that doesn't go so.
+pub(crate) fn failing_part(rt: HostRuntime) -> Option<&'static str> {
+    for (label, row) in &TAKES_OF_PARTS {
+        if !matches!(part_holds(rt, row), Ok(true)) {
             return Some(*label);
         }
     }

@@ -1,0 +1,136 @@
+//! The name under which a new file is written until it gets its own.
+
+use crate::folder::sync_folder;
+use crate::identity::Identity;
+use crate::locks::{LockKind, lock};
+use crate::reason::{Reason, is_missing};
+use crate::replacing::{Access, copy_access};
+use std::alloc::{AllocError, Global};
+use std::fs::{self, File, OpenOptions, Permissions};
+use std::io;
+use std::os::unix::fs::{OpenOptionsExt, PermissionsExt};
+
+/// What is set behind the name of a new file until it is whole.
+const SUFFIX: &str = ".tdb-new";
+
+/// The permissions of a new file: its owner may read and write it, and nobody else.
+const NEW_MODE: u32 = 0o600;
+
+/// The name of a new file until it is whole, and the file of which it is a copy, if it is one.
+#[derive(Drop)]
+pub struct Part {
+    path: String,
+    source: Option<Access>,
+}
+
+/// A file system has no hard links, or not for this file.
+pub(crate) fn has_no_links(error: &io::Error) -> bool {
+    matches!(
+        error.kind(),
+        io::ErrorKind::PermissionDenied | io::ErrorKind::Unsupported | io::ErrorKind::InvalidInput
+    )
+}
+
+/// Nothing has the name, not even a link.
+pub(crate) fn is_free(rt: &HostRuntime, name: &str) -> io::Result<bool> {
+    match fs::symlink_metadata(rt, name) {
+        Ok(_) => Ok(false),
+        Err(error) if is_missing(&error) => Ok(true),
+        Err(error) => Err(error),
+    }
+}
+
+/// Gives a file a name that nothing has: as a second name, and else in place of the first.
+fn name_anew(rt: &HostRuntime, from: &str, to: &str) -> io::Result<()> {
+    match fs::hard_link(rt, from, to) {
+        Ok(()) => fs::remove_file(rt, from),
+        Err(error) if has_no_links(&error) && is_free(rt, to)? => fs::rename(rt, from, to),
+        Err(error) => Err(error),
+    }
+}
+
+/// The file at a path is this one.
+fn is_at(rt: &HostRuntime, path: &str, identity: Identity) -> io::Result<bool> {
+    match fs::symlink_metadata(rt, path) {
+        Ok(found) => Ok(Identity::of(&found) == identity),
+        Err(error) if is_missing(&error) => Ok(false),
+        Err(error) => Err(error),
+    }
+}
+
+impl Part {
+    /// The name of a new file until it is whole, in the same folder.
+    pub(crate) fn of(
+        alloc: Global,
+        name: &str,
+        source: Option<Access>,
+    ) -> Result<Part, AllocError> {
+        let mut path = String::from_str(alloc, name)?;
+        path.push_str(SUFFIX)?;
+        Ok(Part { path, source })
+    }
+
+    /// Makes the file, for its owner alone whatever the process takes away from new files, and locks it. None where
+    /// another run came before: the lock was waited for then, and what was left of a run that was killed is removed.
+    pub(crate) fn try_make(&self, rt: &HostRuntime, seconds: u32) -> Result<Option<File>, Reason> {
+        let made = OpenOptions::new()
+            .read(true)
+            .write(true)
+            .create_new(true)
+            .mode(NEW_MODE)
+            .open(rt, &self.path);
+        let file = match made {
+            Ok(file) => file,
+            Err(error) if error.kind() == io::ErrorKind::AlreadyExists => {
+                self.remove_left(rt, seconds)?;
+                return Ok(None);
+            }
+            Err(error) => return Err(error.into()),
+        };
+        file.set_permissions(Permissions::from_mode(NEW_MODE))?;
+        lock(rt, &file, LockKind::Exclusive, seconds)?;
+        let is_there = is_at(rt, &self.path, Identity::of(&file.metadata()?))?;
+        Ok(is_there.then_some(file))
+    }
+
+    /// Removes what a run left that was killed while it made the same file. The file of one that runs is waited for,
+    /// and has its own name then. Nothing but a regular file is opened.
+    fn remove_left(&self, rt: &HostRuntime, seconds: u32) -> Result<(), Reason> {
+        match fs::symlink_metadata(rt, &self.path) {
+            Ok(found) if found.is_file() => {}
+            Ok(_) => return Err(Reason::NotRegular),
+            Err(error) if is_missing(&error) => return Ok(()),
+            Err(error) => return Err(error.into()),
+        }
+        let file = match File::open(rt, &self.path) {
+            Ok(file) => file,
+            Err(error) if is_missing(&error) => return Ok(()),
+            Err(error) => return Err(error.into()),
+        };
+        lock(rt, &file, LockKind::Exclusive, seconds)?;
+        if is_at(rt, &self.path, Identity::of(&file.metadata()?))? {
+            fs::remove_file(rt, &self.path)?;
+        }
+        Ok(())
+    }
+
+    /// Gives the file its name, where nothing has that, and syncs the folder. A copy gets the permissions, the group
+    /// and the owner of its source before, as far as the system allows it.
+    pub(crate) fn publish(&self, rt: &HostRuntime, name: &str) -> io::Result<()> {
+        if let Some(source) = self.source {
+            copy_access(rt, &self.path, source);
+        }
+        match name_anew(rt, &self.path, name) {
+            Ok(()) => sync_folder(rt, name),
+            Err(error) => {
+                self.discard(rt);
+                Err(error)
+            }
+        }
+    }
+
+    /// Removes the file. What can't be removed is left to the next run that makes the same file.
+    pub(crate) fn discard(&self, rt: &HostRuntime) {
+        let _ = fs::remove_file(rt, &self.path);
+    }
+}
