@@ -2,6 +2,7 @@
 //! Where a call of the system failed, it says on standard error why.
 #![tactic(auto)]
 
+use crate::manner::manner_of;
 use std::alloc::AllocError;
 use std::env::VarError;
 use std::io::IsTerminal;
@@ -11,6 +12,8 @@ use tdb_disk::Sink;
 use tdb_files::{DirFiles, FileSink, InSource, OutSink, Progress};
 use tdb_log::{CountLog, Log, Logs, SinkLog};
 use tdb_top::{Status, run};
+
+mod manner;
 
 /// The variable of the environment that names the file of the log, if there is to be one.
 const LOG_VARIABLE: &str = "TDB_LOG";
@@ -88,7 +91,9 @@ fn run_logged<L: Logs>(rt: HostRuntime, words: &[String], logs: &mut L) -> Statu
     let shown = shown_of(&rt, words);
     let progress = shown.and_then(|_| Progress::on_terminal(rt));
     let when = |what| progress.filter(|_| shown == Some(what));
-    let mut files = DirFiles::new(rt).with_progress(when(Shown::Files));
+    let mut files = DirFiles::new(rt)
+        .with_manner(manner_of(&rt, words))
+        .with_progress(when(Shown::Files));
     let mut input = InSource::new(rt.reader()).with_progress(when(Shown::Input));
     let mut output = OutSink::new(io::writer(&rt)).with_progress(when(Shown::Output));
     let status = run(rt.alloc(), words, &mut files, &mut input, &mut output, logs);
@@ -96,7 +101,19 @@ fn run_logged<L: Logs>(rt: HostRuntime, words: &[String], logs: &mut L) -> Statu
         progress.clear();
     }
     tell_reason(&rt, status, &files, &input, &output);
-    status
+    check_named(&rt, status, &files)
+}
+
+/// The status, or that of a failed device where a new file didn't get its name at the end, which is said on standard
+/// error then.
+fn check_named(rt: &HostRuntime, status: Status, files: &DirFiles) -> Status {
+    match files.last_unnamed() {
+        Some(fault) if status == Status(0) => {
+            let _ = eprintln!(rt; "tdb: {fault}");
+            Status::DEVICE_FAULT
+        }
+        _ => status,
+    }
 }
 
 /// The logs of a run: one that counts, and over it, where the environment names a file, one that writes to that.

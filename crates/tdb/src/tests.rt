@@ -4,7 +4,7 @@
 use std::alloc::AllocError;
 use std::fs;
 use tdb_disk::{Files, MemSink, MemSource, Take};
-use tdb_files::DirFiles;
+use tdb_files::{DirFiles, Manner};
 use tdb_log::Log;
 use tdb_top::{Status, run};
 
@@ -15,7 +15,10 @@ fn run_words(rt: HostRuntime, words: &str) -> Result<(u8, MemSink), AllocError> 
     for word in words.split(' ') {
         list.push(String::from_str(alloc, word)?)?;
     }
-    let mut files = DirFiles::new(rt);
+    let mut files = DirFiles::new(rt).with_manner(Manner {
+        seconds: 1,
+        ..Manner::new()
+    });
     let mut input = MemSource::new(alloc, b"")?;
     let mut output = MemSink::new(alloc);
     let mut logs: Vec<Box<dyn Log>> = Vec::new(alloc);
