@@ -17,7 +17,10 @@ _tdb() {
   local word=${COMP_WORDS[COMP_CWORD]} before=${COMP_WORDS[COMP_CWORD - 1]}
   COMPREPLY=()
   if [ "$COMP_CWORD" -eq 1 ]; then
-    _tdb_words "$word" "tool dump restore backup turns gen"
+    case $word in
+      -*) _tdb_words "$word" "--help --version" ;;
+      *) _tdb_words "$word" "tool dump restore backup turns gen help" ;;
+    esac
     return
   fi
   local command=${COMP_WORDS[1]} options= valued=

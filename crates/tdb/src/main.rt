@@ -2,6 +2,7 @@
 //! Where a call of the system failed, it says on standard error why.
 #![tactic(auto)]
 
+use crate::help::tell_asked;
 use crate::manner::manner_of;
 use std::alloc::AllocError;
 use std::env::VarError;
@@ -11,8 +12,10 @@ use std::{env, io};
 use tdb_disk::Sink;
 use tdb_files::{DirFiles, FileSink, InSource, OutSink, Progress};
 use tdb_log::{CountLog, Log, Logs, SinkLog};
+use tdb_terminal::TerminalSource;
 use tdb_top::{Status, run};
 
+mod help;
 mod manner;
 
 /// The variable of the environment that names the file of the log, if there is to be one.
@@ -86,6 +89,11 @@ fn shown_of(rt: &HostRuntime, words: &[String]) -> Option<Shown> {
     }
 }
 
+/// Whether the input of these words is the lines of a session that a person types.
+fn is_typed(rt: &HostRuntime, words: &[String]) -> bool {
+    words.first().is_some_and(|word| word.as_str() == "tool") && rt.stdin().is_terminal()
+}
+
 /// Runs the words over the files of the system, and tells these logs.
 fn run_logged<L: Logs>(rt: HostRuntime, words: &[String], logs: &mut L) -> Status {
     let shown = shown_of(&rt, words);
@@ -94,13 +102,20 @@ fn run_logged<L: Logs>(rt: HostRuntime, words: &[String], logs: &mut L) -> Statu
     let mut files = DirFiles::new(rt)
         .with_manner(manner_of(&rt, words))
         .with_progress(when(Shown::Files));
-    let mut input = InSource::new(rt.reader()).with_progress(when(Shown::Input));
+    let source = InSource::new(rt.reader()).with_progress(when(Shown::Input));
+    let told = OutSink::new(rt.stderr());
+    let mut input = if is_typed(&rt, words) {
+        TerminalSource::asking(rt.alloc(), source, told)
+    } else {
+        TerminalSource::passing(rt.alloc(), source, told)
+    };
     let mut output = OutSink::new(io::writer(&rt)).with_progress(when(Shown::Output));
     let status = run(rt.alloc(), words, &mut files, &mut input, &mut output, logs);
     if let Some(progress) = progress {
         progress.clear();
     }
-    tell_reason(&rt, status, &files, &input, &output);
+    tell_reason(&rt, status, &files, input.source(), &output);
+    tell_asked(&rt, status, words);
     check_named(&rt, status, &files)
 }
 
