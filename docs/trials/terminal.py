@@ -3,8 +3,8 @@
 
 usage: terminal.py PROGRAM
 
-In a session standard input is a pseudo-terminal, on which a line is typed once the prompt stands on standard error. What
-the program prints on each stream is compared byte for byte.
+In a session standard input is a pseudo-terminal, on which a line is typed once the prompt stands on standard error.
+What the program prints on each stream is compared byte for byte.
 
 Prints each difference, and 'N passed, M failed' on its last line. Exits with 1 where something failed.
 """
