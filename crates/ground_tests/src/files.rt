@@ -5,6 +5,7 @@ mod beneath;
 mod disks;
 mod folder;
 mod lock_tables;
+mod lost_names;
 mod names;
 mod streams;
 mod takes;
@@ -27,7 +28,10 @@ fn real_files_are_taken_and_changed(rt: HostRuntime) {
         ("names of processes", lock_tables::failing_name(rt)),
         ("second names", takes::failing_second_name(rt)),
         ("calls of disks", disks::failing_call(rt)),
+        ("names that are lost", lost_names::failing_lost_name(rt)),
         ("renames", names::failing_rename(rt)),
+        ("files that are replaced", names::failing_kept(rt)),
+        ("copies", names::failing_copy(rt)),
         ("removals", names::failing_removal(rt)),
         ("sinks", streams::failing_sink(rt)),
         ("sources", streams::failing_source(rt)),

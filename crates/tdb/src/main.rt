@@ -10,7 +10,7 @@ use std::io::IsTerminal;
 use std::process::ExitCode;
 use std::{env, io};
 use tdb_disk::Sink;
-use tdb_files::{DirFiles, FileSink, InSource, OutSink, Progress};
+use tdb_files::{DirFiles, FileSink, InSource, OutSink, Progress, Silence};
 use tdb_log::{CountLog, Log, Logs, SinkLog};
 use tdb_terminal::TerminalSource;
 use tdb_top::{Status, run};
@@ -94,13 +94,30 @@ fn is_typed(rt: &HostRuntime, words: &[String]) -> bool {
     words.first().is_some_and(|word| word.as_str() == "tool") && rt.stdin().is_terminal()
 }
 
+/// The status, or where a new file didn't get its name, of which nothing was printed then, that of a failed device, which
+/// is printed, and on standard error why.
+fn check_named(rt: &HostRuntime, status: Status, files: &DirFiles) -> Status {
+    let Some(fault) = files.last_unnamed() else {
+        return status;
+    };
+    let _ = eprintln!(rt; "tdb: {fault}");
+    let mut output = OutSink::new(io::writer(rt));
+    end_with(&mut output, "device fault\n", Status::DEVICE_FAULT)
+}
+
 /// Runs the words over the files of the system, and tells these logs.
-fn run_logged<L: Logs>(rt: HostRuntime, words: &[String], logs: &mut L) -> Status {
+fn run_logged<L: Logs>(
+    rt: HostRuntime,
+    words: &[String],
+    logs: &mut L,
+) -> Result<Status, AllocError> {
+    let silence = Silence::new(rt.alloc())?;
     let shown = shown_of(&rt, words);
     let progress = shown.and_then(|_| Progress::on_terminal(rt));
     let when = |what| progress.filter(|_| shown == Some(what));
     let mut files = DirFiles::new(rt)
         .with_manner(manner_of(&rt, words))
+        .with_silence(silence.share()?)
         .with_progress(when(Shown::Files));
     let source = InSource::new(rt.reader()).with_progress(when(Shown::Input));
     let told = OutSink::new(rt.stderr());
@@ -109,26 +126,18 @@ fn run_logged<L: Logs>(rt: HostRuntime, words: &[String], logs: &mut L) -> Statu
     } else {
         TerminalSource::passing(rt.alloc(), source, told)
     };
-    let mut output = OutSink::new(io::writer(&rt)).with_progress(when(Shown::Output));
+    let mut output = OutSink::new(io::writer(&rt))
+        .with_silence(silence)
+        .with_progress(when(Shown::Output));
     let status = run(rt.alloc(), words, &mut files, &mut input, &mut output, logs);
     if let Some(progress) = progress {
         progress.clear();
     }
-    tell_reason(&rt, status, &files, input.source(), &output);
-    tell_asked(&rt, status, words);
-    check_named(&rt, status, &files)
-}
-
-/// The status, or that of a failed device where a new file didn't get its name at the end, which is said on standard
-/// error then.
-fn check_named(rt: &HostRuntime, status: Status, files: &DirFiles) -> Status {
-    match files.last_unnamed() {
-        Some(fault) if status == Status(0) => {
-            let _ = eprintln!(rt; "tdb: {fault}");
-            Status::DEVICE_FAULT
-        }
-        _ => status,
+    if files.last_unnamed().is_none() {
+        tell_reason(&rt, status, &files, input.source(), &output);
+        tell_asked(&rt, status, words);
     }
+    Ok(check_named(&rt, status, &files))
 }
 
 /// The logs of a run: one that counts, and over it, where the environment names a file, one that writes to that.
@@ -150,7 +159,7 @@ fn run_words(rt: HostRuntime, words: &[String]) -> Result<Status, AllocError> {
             return Ok(tell_log_fault(&rt));
         }
     }
-    Ok(run_logged(rt, words, &mut logs))
+    run_logged(rt, words, &mut logs)
 }
 
 /// Runs the words of the command line over the files of the system.

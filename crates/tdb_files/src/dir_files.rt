@@ -8,13 +8,14 @@ use crate::file_disk::FileDisk;
 use crate::file_fault::FileFault;
 use crate::identity::Identity;
 use crate::manner::Manner;
-use crate::opening::{Refusal, open};
+use crate::opening::{Making, Refusal, open};
+use crate::part::{is_at, remove_unused};
 use crate::progress::Progress;
-use crate::reason::{Reason, is_missing};
+use crate::reason::Reason;
 use crate::replacing::{Access, replace};
+use crate::silence::Silence;
 use std::alloc::{AllocError, Global};
 use std::collections::HashSet;
-use std::fs;
 use tdb_cache::{Cached, WriteBehind};
 use tdb_disk::{Files, FilesFault, Take, TakeRefusal};
 
@@ -35,6 +36,16 @@ pub struct DirFiles {
 
     /// Why a file that was made didn't get its name, the last one.
     unnamed: Option<FileFault>,
+
+    /// The last copy that got its name, and that name. It is open and locked until the next call but a `give`, so that
+    /// another run which makes the same copy waits until it is renamed.
+    named: Option<(String, FileDisk)>,
+
+    /// The name that was removed last.
+    removed: Option<String>,
+
+    /// What begins where a new file gets none.
+    silence: Option<Silence>,
 
     /// Where a person is told what is read and written.
     progress: Option<Progress>,
@@ -68,6 +79,9 @@ impl DirFiles {
             manner: Manner::new(),
             source: None,
             unnamed: None,
+            named: None,
+            removed: None,
+            silence: None,
             progress: None,
         }
     }
@@ -88,6 +102,17 @@ impl DirFiles {
         DirFiles { progress, ..self }
     }
 
+    /// The same files, which begin this where a new file doesn't get its name.
+    pub fn with_silence(self, silence: Silence) -> DirFiles
+        ensures taken { (name : List ℕ) → name_is_taken result name ≡ name_is_taken self name }
+        ensures faults { dir_faults result ≡ dir_faults self }
+    {
+        DirFiles {
+            silence: Some(silence),
+            ..self
+        }
+    }
+
     /// What is known of the last fault, of a call or of a disk that was given back; None where there is none.
     pub fn last_fault(&self) -> Option<&FileFault>
         ensures { IsSome result ↔ (0 < dir_faults self.now) }
@@ -101,6 +126,21 @@ impl DirFiles {
         self.unnamed.as_ref()
     }
 
+    /// What is known of a file of this name, if it is to be made.
+    fn prepare(&mut self, name: &str) -> Making
+        ensures { self.new ≡ record self.old { named = self.new.named; removed = self.new.removed } }
+    {
+        self.named = None;
+        let is_anew = match self.removed.take() {
+            Some(removed) => removed.as_str() == name,
+            None => false,
+        };
+        Making {
+            source: self.source.map(|(_, access)| access),
+            is_anew,
+        }
+    }
+
     /// Forgets a file that is given back.
     fn forget(&mut self, identity: Identity)
         ensures taken { self.new.taken ≡ self.old.taken }
@@ -112,20 +152,58 @@ impl DirFiles {
         }
     }
 
-    /// Gives a new file its name, where it is whole, and else removes it.
-    fn publish(&mut self, disk: &FileDisk, name: &str, kept: Option<String>)
+    /// A new file didn't get its name.
+    fn miss_name(&mut self, name: Option<String>, reason: Reason)
         ensures { self.new ≡ record self.old { unnamed = self.new.unnamed } }
+    {
+        if let Some(silence) = &self.silence {
+            silence.begin();
+        }
+        self.unnamed = Some(FileFault { name, reason });
+    }
+
+    /// Whether a new file didn't get this name. One whose name isn't known may have been meant for any.
+    fn misses(&self, name: &str) -> bool {
+        match &self.unnamed {
+            Some(fault) => fault.name().is_none_or(|missed| missed == name),
+            None => false,
+        }
+    }
+
+    /// The file at a name may get another one: it isn't another program's, where this run made one of that name.
+    fn check_moved(&self, name: &str) -> Result<(), Reason> {
+        if self.misses(name) {
+            return Err(Reason::Unnamed);
+        }
+        match &self.named {
+            Some((made, disk)) if made.as_str() == name => {
+                if is_at(&self.rt, name, disk.identity())? {
+                    Ok(())
+                } else {
+                    Err(Reason::Changed)
+                }
+            }
+            _ => Ok(()),
+        }
+    }
+
+    /// Gives a new file its name, where it is whole, and else removes it.
+    fn publish(&mut self, disk: FileDisk, name: &str, kept: Option<String>)
+        ensures { self.new ≡ record self.old { unnamed = self.new.unnamed; named = self.new.named } }
     {
         let Some(part) = disk.part() else {
             return;
         };
         if disk.last_fault().is_some() {
             part.discard(&self.rt);
-        } else if let Err(error) = part.publish(&self.rt, name) {
-            self.unnamed = Some(FileFault {
-                name: kept,
-                reason: error.into(),
-            });
+            return;
+        }
+        let answer = part.publish(&self.rt, name);
+        let is_copy = part.is_copy();
+        match (answer, kept) {
+            (Err(error), kept) => self.miss_name(kept, error.into()),
+            (Ok(()), Some(kept)) if is_copy => self.named = Some((kept, disk)),
+            _ => {}
         }
     }
 
@@ -193,8 +271,8 @@ impl Files for DirFiles {
     ) -> Result<WriteBehind<Cached<FileDisk>>, TakeRefusal> {
         self.identities.reserve(1)?;
         self.mark(alloc, name)?;
-        let source = self.source.map(|(_, access)| access);
-        match open(&self.rt, name, how, self.manner, source, &self.identities) {
+        let making = self.prepare(name);
+        match open(&self.rt, name, how, self.manner, making, &self.identities) {
             Ok(disk) => {
                 self.identities.insert(disk.identity()).unwrap();
                 self.source = source_of(self.source, &disk, how);
@@ -228,24 +306,32 @@ impl Files for DirFiles {
         let disk = d.finish().into_inner();
         self.forget(disk.identity());
         match reason {
-            None => self.publish(&disk, name, kept),
+            None => self.publish(disk, name, kept),
             Some(reason) => {
-                self.publish(&disk, name, None);
+                self.publish(disk, name, None);
                 self.fault(kept, reason);
             }
         }
     }
 
+    /// A file that has the name of a new one, which lost it or didn't get it, is another program's, and is left alone.
     fn rename(&mut self, from: &str, to: &str) -> Result<(), FilesFault> {
-        let answer = replace(&self.rt, from, to, self.manner);
+        let answer = match self.check_moved(from) {
+            Ok(()) => replace(&self.rt, from, to, self.manner),
+            Err(reason) => Err(reason),
+        };
+        self.named = None;
         self.count(to, answer)
     }
 
+    /// A file that has the name of a new one, which didn't get it, is another program's, and is left alone.
     fn remove(&mut self, name: &str) -> Result<(), FilesFault> {
-        let answer = match fs::remove_file(&self.rt, name) {
-            Err(error) if !is_missing(&error) => Err(Reason::from(error)),
-            _ => Ok(()),
-        };
+        if self.misses(name) {
+            return Ok(());
+        }
+        self.named = None;
+        self.removed = String::from_str(self.rt.alloc(), name).ok();
+        let answer = remove_unused(&self.rt, name, self.manner.seconds);
         self.count(name, answer)
     }
 

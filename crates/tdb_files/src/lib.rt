@@ -21,6 +21,7 @@ mod part;
 mod progress;
 mod reason;
 mod replacing;
+mod silence;
 mod stamp;
 
 pub use dir_files::DirFiles;
@@ -35,3 +36,4 @@ pub use manner::Manner;
 pub use out_sink::OutSink;
 pub use progress::Progress;
 pub use reason::{Reason, SystemError};
+pub use silence::Silence;

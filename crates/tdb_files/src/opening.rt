@@ -11,7 +11,7 @@ use crate::identity::Identity;
 use crate::locks::{LockKind, lock};
 use crate::manner::Manner;
 use crate::others::{find_locker, find_open, find_part_locker};
-use crate::part::{Part, is_free};
+use crate::part::{Part, is_free, remove_unused};
 use crate::reason::Reason;
 use crate::replacing::Access;
 use crate::stamp::Stamp;
@@ -32,6 +32,15 @@ pub enum Refusal {
     Failed(Reason),
     /// There was no memory.
     Memory,
+}
+
+/// What is known of a file that is to be made.
+#[derive(Clone, Copy)]
+pub(crate) struct Making {
+    /// Who may use the file of which it is a copy, if it is one.
+    pub(crate) source: Option<Access>,
+    /// A file of its name was removed just before, so one that is there again is another run's, which makes the same.
+    pub(crate) is_anew: bool,
 }
 
 /// Descriptors up to this one are those of the standard streams.
@@ -165,22 +174,44 @@ fn open_existing(
 }
 
 /// How often a new file is tried to be made, where other runs make the same one.
-const TRIES: u32 = 100;
+const TRIES: u32 = 1000;
+
+/// Makes a new file under the name that it has until it is whole, and locks it, where its own name is free. None where
+/// another run makes the same file: that one was waited for then.
+fn try_make_part(
+    rt: &HostRuntime,
+    part: &Part,
+    name: &str,
+    manner: Manner,
+    is_anew: bool,
+) -> Result<Option<File>, Refusal>
+    ensures { IsErrOf result refusal.Missing → ⊥ }
+{
+    let answer = match is_free(rt, name) {
+        Ok(true) => part.try_make(rt, manner.seconds),
+        Ok(false) if is_anew => match remove_unused(rt, name, manner.seconds) {
+            Ok(()) => Ok(None),
+            Err(reason) => Err(reason),
+        },
+        Ok(false) => return Err(Refusal::There),
+        Err(error) => Err(error.into()),
+    };
+    answer.map_err(Refusal::Failed)
+}
 
 /// Makes a new file under the name that it has until it is whole, and locks it.
-fn make_part(rt: &HostRuntime, part: &Part, name: &str, manner: Manner) -> Result<File, Refusal>
+fn make_part(
+    rt: &HostRuntime,
+    part: &Part,
+    name: &str,
+    manner: Manner,
+    is_anew: bool,
+) -> Result<File, Refusal>
     ensures { IsErrOf result refusal.Missing → ⊥ }
 {
     for _ in 0..TRIES {
-        match is_free(rt, name) {
-            Ok(true) => {}
-            Ok(false) => return Err(Refusal::There),
-            Err(error) => return Err(Refusal::Failed(error.into())),
-        }
-        match part.try_make(rt, manner.seconds) {
-            Ok(Some(file)) => return Ok(file),
-            Ok(None) => {}
-            Err(reason) => return Err(Refusal::Failed(reason)),
+        if let Some(file) = try_make_part(rt, part, name, manner, is_anew)? {
+            return Ok(file);
         }
     }
     Err(Refusal::Failed(Reason::InUse))
@@ -199,7 +230,7 @@ fn make_new(
     rt: &HostRuntime,
     name: &str,
     manner: Manner,
-    source: Option<Access>,
+    making: Making,
 ) -> Result<FileDisk, Refusal>
     ensures missing { IsErrOf result refusal.Missing → ⊥ }
     ensures len { IfOk result (λ d. file_len d ≡ 0) }
@@ -207,10 +238,10 @@ fn make_new(
     ensures syncs { IfOk result (λ d. file_syncs d ≡ 0) }
     ensures bytes_read { IfOk result (λ d. file_bytes_read d ≡ 0) }
 {
-    let Ok(part) = Part::of(rt.alloc(), name, source) else {
+    let Ok(part) = Part::of(rt.alloc(), name, making.source) else {
         return Err(Refusal::Memory);
     };
-    let file = make_part(rt, &part, name, manner)?;
+    let file = make_part(rt, &part, name, manner, making.is_anew)?;
     match raise_new(file) {
         Ok((file, found)) => {
             let stamp = Stamp::of(&found);
@@ -231,7 +262,7 @@ pub(crate) fn open(
     name: &str,
     how: Take,
     manner: Manner,
-    source: Option<Access>,
+    making: Making,
     taken: &HashSet<Identity>,
 ) -> Result<FileDisk, Refusal>
     ensures missing { IsErrOf result refusal.Missing → how ≢ mode.New }
@@ -249,6 +280,6 @@ pub(crate) fn open(
                 Err(reason) => Err(Refusal::Failed(reason)),
             }
         }
-        Take::New => make_new(rt, name, manner, source),
+        Take::New => make_new(rt, name, manner, making),
     }
 }

@@ -4,6 +4,7 @@ ghost use Rattle.std.specs.Prelude.{◌≡◌, ◌<◌, ◌↔◌, [], false, Is
 use crate::faults::Faults;
 use crate::progress::{Passing, Progress};
 use crate::reason::Reason;
+use crate::silence::Silence;
 use std::io::Write;
 use tdb_disk::{Sink, SinkFault};
 
@@ -12,6 +13,9 @@ use tdb_disk::{Sink, SinkFault};
 pub struct OutSink<W> {
     writer: W,
     faults: Faults<Reason>,
+
+    /// Once this begins nothing is written.
+    silence: Option<Silence>,
 
     /// Where a person is told what is written.
     progress: Option<Progress>,
@@ -27,6 +31,7 @@ impl<W: Write> OutSink<W> {
         OutSink {
             writer,
             faults: Faults::new(),
+            silence: None,
             progress: None,
         }
     }
@@ -36,6 +41,16 @@ impl<W: Write> OutSink<W> {
         ensures { out_faults result ≡ out_faults self }
     {
         OutSink { progress, ..self }
+    }
+
+    /// The same sink, whose writes fail once this begins.
+    pub fn with_silence(self, silence: Silence) -> OutSink<W>
+        ensures { out_faults result ≡ out_faults self }
+    {
+        OutSink {
+            silence: Some(silence),
+            ..self
+        }
     }
 
     /// Why the last write that failed did; None where none did.
@@ -49,6 +64,13 @@ impl<W: Write> OutSink<W> {
     fn put(&mut self, bytes: &[u8]) -> Result<(), Reason>
         ensures { out_faults self.new ≡ out_faults self.old }
     {
+        if self
+            .silence
+            .as_ref()
+            .is_some_and(|silence| silence.has_begun())
+        {
+            return Err(Reason::Unnamed);
+        }
         let mut done = 0;
         while done < bytes.len() {
             match self.writer.write(&bytes[done..]) {

@@ -50,11 +50,36 @@ fn name_anew(rt: &HostRuntime, from: &str, to: &str) -> io::Result<()> {
 }
 
 /// The file at a path is this one.
-fn is_at(rt: &HostRuntime, path: &str, identity: Identity) -> io::Result<bool> {
+pub(crate) fn is_at(rt: &HostRuntime, path: &str, identity: Identity) -> io::Result<bool> {
     match fs::symlink_metadata(rt, path) {
         Ok(found) => Ok(Identity::of(&found) == identity),
         Err(error) if is_missing(&error) => Ok(false),
         Err(error) => Err(error),
+    }
+}
+
+/// A regular file that may be read, open. Nothing else is opened: to open a pipe might wait.
+fn open_regular(rt: &HostRuntime, path: &str) -> Option<File> {
+    match fs::symlink_metadata(rt, path) {
+        Ok(found) if found.is_file() => File::open(rt, path).ok(),
+        _ => None,
+    }
+}
+
+/// Removes the file at a path, if there is one, once no other run has it. Where it got another name meanwhile it stays.
+/// What isn't a regular file, or may not be read, isn't waited for.
+pub(crate) fn remove_unused(rt: &HostRuntime, path: &str, seconds: u32) -> Result<(), Reason> {
+    // The lock is kept up to the end.
+    let file = open_regular(rt, path);
+    if let Some(file) = &file {
+        lock(rt, file, LockKind::Exclusive, seconds)?;
+        if !is_at(rt, path, Identity::of(&file.metadata()?))? {
+            return Ok(());
+        }
+    }
+    match fs::remove_file(rt, path) {
+        Err(error) if !is_missing(&error) => Err(error.into()),
+        _ => Ok(()),
     }
 }
 
@@ -94,24 +119,19 @@ impl Part {
     }
 
     /// Removes what a run left that was killed while it made the same file. The file of one that runs is waited for,
-    /// and has its own name then. Nothing but a regular file is opened.
+    /// and has its own name then. Nothing but a regular file is removed.
     fn remove_left(&self, rt: &HostRuntime, seconds: u32) -> Result<(), Reason> {
         match fs::symlink_metadata(rt, &self.path) {
-            Ok(found) if found.is_file() => {}
-            Ok(_) => return Err(Reason::NotRegular),
-            Err(error) if is_missing(&error) => return Ok(()),
-            Err(error) => return Err(error.into()),
+            Ok(found) if found.is_file() => remove_unused(rt, &self.path, seconds),
+            Ok(_) => Err(Reason::NotRegular),
+            Err(error) if is_missing(&error) => Ok(()),
+            Err(error) => Err(error.into()),
         }
-        let file = match File::open(rt, &self.path) {
-            Ok(file) => file,
-            Err(error) if is_missing(&error) => return Ok(()),
-            Err(error) => return Err(error.into()),
-        };
-        lock(rt, &file, LockKind::Exclusive, seconds)?;
-        if is_at(rt, &self.path, Identity::of(&file.metadata()?))? {
-            fs::remove_file(rt, &self.path)?;
-        }
-        Ok(())
+    }
+
+    /// The file is a copy of another one.
+    pub(crate) fn is_copy(&self) -> bool {
+        self.source.is_some()
     }
 
     /// Gives the file its name, where nothing has that, and syncs the folder. A copy gets the permissions, the group

@@ -36,6 +36,9 @@ pub enum Reason {
     /// A write took no byte.
     #[error("nothing could be written")]
     NothingWritten,
+    /// A file that was made before didn't get its name.
+    #[error("a new file has no name")]
+    Unnamed,
 }
 
 /// An error of the system. It is told in the system's words, without its number.

@@ -2,8 +2,8 @@
 
 use crate::files::folder::{self, FOLDER, has, lay, mode_of, set_mode};
 use std::{fs, io};
-use tdb_disk::Files;
-use tdb_files::DirFiles;
+use tdb_disk::{Files, Take};
+use tdb_files::{DirFiles, Manner};
 
 const FROM: &str = "tdb_files_test/from";
 
@@ -88,6 +88,60 @@ pub(crate) fn failing_rename(rt: HostRuntime) -> Option<&'static str> {
         }
     }
     None
+}
+
+/// The files that are laid, one after the other, where each replaces the one before, and what is kept of the first two.
+static REPLACED: [&'static [u8]; 3] = [b"one", b"two", b"three"];
+
+const KEPT: &str = "tdb_files_test/to.refused";
+
+const KEPT_NEXT: &str = "tdb_files_test/to.refused.1";
+
+/// Whether each file that is replaced is kept under the next of its names.
+fn keeps(rt: HostRuntime) -> io::Result<bool> {
+    folder::make(rt)?;
+    let mut files = DirFiles::new(rt).with_manner(Manner {
+        keeps_replaced: true,
+        ..Manner::new()
+    });
+    let mut is_done = true;
+    for content in &REPLACED {
+        lay(rt, FROM, *content, 0o600)?;
+        is_done &= files.rename(FROM, TO).is_ok();
+    }
+    Ok(is_done && has(rt, TO, b"three") && has(rt, KEPT, b"one") && has(rt, KEPT_NEXT, b"two"))
+}
+
+/// What doesn't go so where files are replaced that are to be kept.
+pub(crate) fn failing_kept(rt: HostRuntime) -> Option<&'static str> {
+    (!matches!(keeps(rt), Ok(true))).then_some("the files are kept")
+}
+
+/// Whether a file that is made while another is taken gets the permissions of that, and one that is made alone is its
+/// owner's.
+fn copy_holds(rt: HostRuntime) -> io::Result<bool> {
+    folder::make(rt)?;
+    lay(rt, FROM, b"one", 0o640)?;
+    let alloc = rt.alloc();
+    let mut files = DirFiles::new(rt);
+    let Ok(source) = files.take(alloc, FROM, Take::ReadOnly) else {
+        return Ok(false);
+    };
+    let Ok(copy) = files.take(alloc, TO, Take::New) else {
+        return Ok(false);
+    };
+    files.give(TO, copy);
+    files.give(FROM, source);
+    let Ok(alone) = files.take(alloc, REMOVED, Take::New) else {
+        return Ok(false);
+    };
+    files.give(REMOVED, alone);
+    Ok(mode_of(rt, TO)? == 0o640 && mode_of(rt, REMOVED)? == 0o600)
+}
+
+/// What doesn't go so where a file is copied.
+pub(crate) fn failing_copy(rt: HostRuntime) -> Option<&'static str> {
+    (!matches!(copy_holds(rt), Ok(true))).then_some("the permissions")
 }
 
 const REMOVED: &str = "tdb_files_test/removed";
