@@ -72,6 +72,9 @@ GIVEN = [
     ("key_commands", "tdb-turns.1"),
     ("value_commands", "tdb-turns.1"),
 ]
+# The crates that tell something on standard error.
+TELLING = ["tdb", "tdb_files", "tdb_terminal"]
+
 COMPLETED = {"commands", "options_of", "tools", "hashes", "orders"}
 
 
@@ -230,20 +233,41 @@ def check_texts(tally, crates):
             tally.check(has_words(pages[page], word), f"'{word}' of {name} isn't in {page}")
             if name in COMPLETED:
                 tally.check(has_words(completion, word), f"'{word}' of {name} isn't in the completion")
-    check_reasons(tally, crates, pages["tdb-refusals.7"])
+    check_reasons(tally, crates, pages["tdb-refusals.7"], everywhere)
 
 
-def check_reasons(tally, crates, page):
+def pieces_of(text):
+    """The parts of a text between what is filled in, without punctuation at the ends."""
+    parts = (part.strip(" :;?") for part in re.split(r"\{[^}]*\}|\\n", text))
+    return [part for part in parts if re.search("[A-Za-z]", part)]
+
+
+def check_told(tally, crates, everywhere):
+    """Every line that begins with the name of the program, and is told on standard error, stands in a page."""
+    told = []
+    for crate in TELLING:
+        for path in sorted((crates / crate / "src").glob("**/*.rt")):
+            if path.name != "tests.rt":
+                lines = re.findall(r'"(tdb: (?:[^"\\{\n]|\\.|\{[^}]*\})*)"', path.read_text(encoding="utf-8"))
+                told += [piece for line in lines for piece in pieces_of(line[len("tdb: ") :])]
+    tally.check(told, "no line on standard error in the sources")
+    for text in told:
+        tally.check(has_words(everywhere, text), f"'tdb: .. {text}' isn't in tdb.1 or tdb-refusals.7")
+
+
+def check_reasons(tally, crates, page, everywhere):
     """Every reason that is told on standard error stands in the page of refusals."""
     reasons = []
     for path in sorted(crates.glob("*/src/**/*.rt")):
         source = path.read_text(encoding="utf-8")
         found = re.search(r"\nenum Reason |\npub enum Reason ", source)
         if found:
-            reasons += re.findall(r'#\[error\("([^"{]+)"\)\]', source[found.start() :].split("\n}\n")[0])
+            for text in re.findall(r'#\[error\("([^"]+)"\)\]', source[found.start() :].split("\n}\n")[0]):
+                reasons += pieces_of(text)
     tally.check(reasons, "no enum Reason in the sources")
     for reason in reasons:
         tally.check(has_words(page, reason), f"the reason '{reason}' isn't in tdb-refusals.7")
+    check_told(tally, crates, everywhere)
     main = (crates / "tdb" / "src" / "main.rt").read_text(encoding="utf-8")
     told = re.findall(r'eprintln!\([^;]*; "tdb: ([^{"]+): ', main)
     told += re.findall(r'const LOG_VARIABLE: &str = "([^"]+)"', main)
