@@ -14,8 +14,10 @@ use crate::progress::Progress;
 use crate::reason::Reason;
 use crate::replacing::{Access, replace};
 use crate::silence::Silence;
+use crate::stamp::Stamp;
 use std::alloc::{AllocError, Global};
 use std::collections::HashSet;
+use std::fs;
 use tdb_cache::{Cached, WriteBehind};
 use tdb_disk::{Files, FilesFault, Take, TakeRefusal};
 
@@ -40,6 +42,9 @@ pub struct DirFiles {
     /// The last copy that got its name, and that name. It is open and locked until the next call but a `give`, so that
     /// another run which makes the same copy waits until it is renamed.
     named: Option<(String, FileDisk)>,
+
+    /// The file that was there and was given back last, but for those of which a copy was made, and how it was then.
+    left: Option<(String, Stamp)>,
 
     /// The name that was removed last.
     removed: Option<String>,
@@ -80,6 +85,7 @@ impl DirFiles {
             source: None,
             unnamed: None,
             named: None,
+            left: None,
             removed: None,
             silence: None,
             progress: None,
@@ -187,11 +193,45 @@ impl DirFiles {
         }
     }
 
-    /// Gives a new file its name, where it is whole, and else removes it.
+    /// The file at a name may be replaced: it is as it was when this run gave it back, if it did.
+    fn check_left(&self, name: &str) -> Result<(), Reason> {
+        match &self.left {
+            Some((left, stamp)) if left.as_str() == name => {
+                if Stamp::of(&fs::metadata(&self.rt, name)?) == *stamp {
+                    Ok(())
+                } else {
+                    Err(Reason::Changed)
+                }
+            }
+            _ => Ok(()),
+        }
+    }
+
+    /// Notes how a file is that is given back, unless a copy was made of it.
+    fn note_left(&mut self, disk: &FileDisk, name: Option<String>)
+        ensures { self.new ≡ record self.old { left = self.new.left } }
+    {
+        if self.named.is_none()
+            && let Some(name) = name
+            && let Some(stamp) = disk.stamp()
+        {
+            self.left = Some((name, stamp));
+        }
+    }
+
+    /// Gives one file the name of another, where both may.
+    fn replace(&self, from: &str, to: &str) -> Result<(), Reason> {
+        self.check_moved(from)?;
+        self.check_left(to)?;
+        replace(&self.rt, from, to, self.manner)
+    }
+
+    /// Gives a new file its name, where it is whole, and else removes it. Of another file it notes how it is.
     fn publish(&mut self, disk: FileDisk, name: &str, kept: Option<String>)
-        ensures { self.new ≡ record self.old { unnamed = self.new.unnamed; named = self.new.named } }
+        ensures { self.new ≡ record self.old { unnamed = self.new.unnamed; named = self.new.named; left = self.new.left } }
     {
         let Some(part) = disk.part() else {
+            self.note_left(&disk, kept);
             return;
         };
         if disk.last_fault().is_some() {
@@ -316,11 +356,9 @@ impl Files for DirFiles {
 
     /// A file that has the name of a new one, which lost it or didn't get it, is another program's, and is left alone.
     fn rename(&mut self, from: &str, to: &str) -> Result<(), FilesFault> {
-        let answer = match self.check_moved(from) {
-            Ok(()) => replace(&self.rt, from, to, self.manner),
-            Err(reason) => Err(reason),
-        };
+        let answer = self.replace(from, to);
         self.named = None;
+        self.left = None;
         self.count(to, answer)
     }
 

@@ -12,6 +12,7 @@ use crate::part::Part;
 use crate::progress::{Passing, Progress};
 use crate::reason::Reason;
 use crate::replacing::Access;
+use crate::stamp::Stamp;
 use std::fs::File;
 use std::os::unix::fs::FileExt;
 use tdb_disk::{Disk, DiskFault};
@@ -92,6 +93,11 @@ impl FileDisk {
     /// Who may use the file; None where the system doesn't tell it.
     pub(crate) fn access(&self) -> Option<Access> {
         Some(Access::of(&self.file.metadata().ok()?))
+    }
+
+    /// How the file is now; None where the system doesn't tell it.
+    pub(crate) fn stamp(&self) -> Option<Stamp> {
+        Some(Stamp::of(&self.file.metadata().ok()?))
     }
 
     /// Why the last call that failed did; None where none did.

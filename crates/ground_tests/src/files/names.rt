@@ -117,8 +117,8 @@ pub(crate) fn failing_kept(rt: HostRuntime) -> Option<&'static str> {
     (!matches!(keeps(rt), Ok(true))).then_some("the files are kept")
 }
 
-/// Whether a file that is made while another is taken gets the permissions of that, and one that is made alone is its
-/// owner's.
+/// Whether a file that is made while another is taken gets the permissions of that, and isn't removed by another run
+/// before the next call; and whether one that is made alone is its owner's.
 fn copy_holds(rt: HostRuntime) -> io::Result<bool> {
     folder::make(rt)?;
     lay(rt, FROM, b"one", 0o640)?;
@@ -132,16 +132,23 @@ fn copy_holds(rt: HostRuntime) -> io::Result<bool> {
     };
     files.give(TO, copy);
     files.give(FROM, source);
+    let is_copy = mode_of(rt, TO)? == 0o640;
+    let mut other = DirFiles::new(rt).with_manner(Manner {
+        seconds: 0,
+        ..Manner::new()
+    });
+    let is_held = other.remove(TO).is_err();
     let Ok(alone) = files.take(alloc, REMOVED, Take::New) else {
         return Ok(false);
     };
     files.give(REMOVED, alone);
-    Ok(mode_of(rt, TO)? == 0o640 && mode_of(rt, REMOVED)? == 0o600)
+    let is_let_go = other.remove(TO).is_ok();
+    Ok(is_copy && is_held && is_let_go && mode_of(rt, REMOVED)? == 0o600)
 }
 
 /// What doesn't go so where a file is copied.
 pub(crate) fn failing_copy(rt: HostRuntime) -> Option<&'static str> {
-    (!matches!(copy_holds(rt), Ok(true))).then_some("the permissions")
+    (!matches!(copy_holds(rt), Ok(true))).then_some("a copy, and a file alone")
 }
 
 const REMOVED: &str = "tdb_files_test/removed";
