@@ -176,30 +176,23 @@ fn open_existing(
 /// How often a new file is tried to be made, where other runs make the same one.
 const TRIES: u32 = 1000;
 
-/// Makes a new file under the name that it has until it is whole, and locks it, where its own name is free. None where
-/// another run makes the same file: that one was waited for then.
-fn try_make_part(
-    rt: &HostRuntime,
-    part: &Part,
-    name: &str,
-    manner: Manner,
-    is_anew: bool,
-) -> Result<Option<File>, Refusal>
+/// Sees that nothing has the name of a new file. Where one of its name was removed just before, one that is there again
+/// is another run's, which makes the same file: it is waited for, and removed where it was left.
+fn free_name(rt: &HostRuntime, name: &str, manner: Manner, is_anew: bool) -> Result<(), Refusal>
     ensures { IsErrOf result refusal.Missing → ⊥ }
 {
-    let answer = match is_free(rt, name) {
-        Ok(true) => part.try_make(rt, manner.seconds),
-        Ok(false) if is_anew => match remove_unused(rt, name, manner.seconds) {
-            Ok(()) => Ok(None),
-            Err(reason) => Err(reason),
-        },
-        Ok(false) => return Err(Refusal::There),
-        Err(error) => Err(error.into()),
-    };
-    answer.map_err(Refusal::Failed)
+    if is_anew && let Err(reason) = remove_unused(rt, name, manner.seconds) {
+        return Err(Refusal::Failed(reason));
+    }
+    match is_free(rt, name) {
+        Ok(true) => Ok(()),
+        Ok(false) => Err(Refusal::There),
+        Err(error) => Err(Refusal::Failed(error.into())),
+    }
 }
 
-/// Makes a new file under the name that it has until it is whole, and locks it.
+/// Makes a new file under the name that it has until it is whole, and locks it. No other run can give its name to a file
+/// of its own then, so that name is looked at once more.
 fn make_part(
     rt: &HostRuntime,
     part: &Part,
@@ -210,8 +203,19 @@ fn make_part(
     ensures { IsErrOf result refusal.Missing → ⊥ }
 {
     for _ in 0..TRIES {
-        if let Some(file) = try_make_part(rt, part, name, manner, is_anew)? {
-            return Ok(file);
+        free_name(rt, name, manner, is_anew)?;
+        match part.try_make(rt, manner.seconds) {
+            Ok(Some(file)) => {
+                return match free_name(rt, name, manner, is_anew) {
+                    Ok(()) => Ok(file),
+                    Err(refusal) => {
+                        part.discard(rt);
+                        Err(refusal)
+                    }
+                };
+            }
+            Ok(None) => {}
+            Err(reason) => return Err(Refusal::Failed(reason)),
         }
     }
     Err(Refusal::Failed(Reason::InUse))

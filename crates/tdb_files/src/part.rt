@@ -58,11 +58,16 @@ pub(crate) fn is_at(rt: &HostRuntime, path: &str, identity: Identity) -> io::Res
     }
 }
 
-/// A regular file that may be read, open. Nothing else is opened: to open a pipe might wait.
-fn open_regular(rt: &HostRuntime, path: &str) -> Option<File> {
-    match fs::symlink_metadata(rt, path) {
-        Ok(found) if found.is_file() => File::open(rt, path).ok(),
-        _ => None,
+/// A regular file that may be read, open. Nothing else is opened: to open a pipe might wait. An Err where nothing is at
+/// the path, or the system doesn't tell.
+fn open_regular(rt: &HostRuntime, path: &str) -> io::Result<Option<File>> {
+    if !fs::symlink_metadata(rt, path)?.is_file() {
+        return Ok(None);
+    }
+    match File::open(rt, path) {
+        Ok(file) => Ok(Some(file)),
+        Err(error) if is_missing(&error) => Err(error),
+        Err(_) => Ok(None),
     }
 }
 
@@ -70,7 +75,11 @@ fn open_regular(rt: &HostRuntime, path: &str) -> Option<File> {
 /// What isn't a regular file, or may not be read, isn't waited for.
 pub(crate) fn remove_unused(rt: &HostRuntime, path: &str, seconds: u32) -> Result<(), Reason> {
     // The lock is kept up to the end.
-    let file = open_regular(rt, path);
+    let file = match open_regular(rt, path) {
+        Ok(file) => file,
+        Err(error) if is_missing(&error) => return Ok(()),
+        Err(error) => return Err(error.into()),
+    };
     if let Some(file) = &file {
         lock(rt, file, LockKind::Exclusive, seconds)?;
         if !is_at(rt, path, Identity::of(&file.metadata()?))? {
