@@ -18,7 +18,7 @@ use tdb_top::{Status, run};
 mod help;
 mod manner;
 
-/// The variable of the environment that names the file of the log, if there is to be one.
+/// The variable of the environment that names the file of the log, if there is to be one. An empty one names none.
 const LOG_VARIABLE: &str = "TDB_LOG";
 
 /// The words after the program's name.
@@ -145,6 +145,7 @@ fn run_words(rt: HostRuntime, words: &[String]) -> Result<Status, AllocError> {
     let mut logs: Vec<Box<dyn Log>> = Vec::new(rt.alloc());
     logs.push(Box::new(rt.alloc(), CountLog::new())?)?;
     match env::var(&rt, LOG_VARIABLE) {
+        Ok(path) if path.is_empty() => {}
         Ok(path) => match FileSink::create(&rt, &path) {
             Ok(sink) => logs.push(Box::new(rt.alloc(), SinkLog::new(sink))?)?,
             Err(reason) => {
