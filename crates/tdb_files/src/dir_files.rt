@@ -12,7 +12,7 @@ use crate::opening::{Making, Refusal, open};
 use crate::part::{is_at, remove_unused};
 use crate::progress::Progress;
 use crate::reason::Reason;
-use crate::replacing::{Access, replace};
+use crate::replacing::{Access, check_replaced, replace};
 use crate::silence::Silence;
 use crate::stamp::Stamp;
 use std::alloc::{AllocError, Global};
@@ -43,7 +43,8 @@ pub struct DirFiles {
     /// another run which makes the same copy waits until it is renamed.
     named: Option<(String, FileDisk)>,
 
-    /// The file that was there and was given back last, but for those of which a copy was made, and how it was then.
+    /// The file that was there and was given back last, but for those of which a copy was made, and how it was found,
+    /// or as this run left it.
     left: Option<(String, Stamp)>,
 
     /// The name that was removed last.
@@ -193,7 +194,7 @@ impl DirFiles {
         }
     }
 
-    /// The file at a name may be replaced: it is as it was when this run gave it back, if it did.
+    /// The file at a name may be replaced: it is as this run found or left it, if it had it.
     fn check_left(&self, name: &str) -> Result<(), Reason> {
         match &self.left {
             Some((left, stamp)) if left.as_str() == name => {
@@ -207,7 +208,7 @@ impl DirFiles {
         }
     }
 
-    /// Notes how a file is that is given back, unless a copy was made of it.
+    /// Notes how a file was found, or as this run left it, that is given back, unless a copy was made of it.
     fn note_left(&mut self, disk: &FileDisk, name: Option<String>)
         ensures { self.new ≡ record self.old { left = self.new.left } }
     {
@@ -222,6 +223,7 @@ impl DirFiles {
     /// Gives one file the name of another, where both may.
     fn replace(&self, from: &str, to: &str) -> Result<(), Reason> {
         self.check_moved(from)?;
+        check_replaced(&self.rt, from, to, self.manner)?;
         self.check_left(to)?;
         replace(&self.rt, from, to, self.manner)
     }

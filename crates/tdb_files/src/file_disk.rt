@@ -95,9 +95,9 @@ impl FileDisk {
         Some(Access::of(&self.file.metadata().ok()?))
     }
 
-    /// How the file is now; None where the system doesn't tell it.
+    /// How the file was found, or as this run left it; None where that isn't known.
     pub(crate) fn stamp(&self) -> Option<Stamp> {
-        Some(Stamp::of(&self.file.metadata().ok()?))
+        self.guard.stamp()
     }
 
     /// Why the last call that failed did; None where none did.

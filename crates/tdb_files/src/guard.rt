@@ -7,13 +7,13 @@ use crate::stamp::Stamp;
 use std::fs::File;
 use std::time::{Duration, Instant};
 
-/// A file is looked at before a change that comes so long after the last one, in milliseconds.
-const PAUSE: u64 = 10;
+/// A file is looked at before a change that comes so long after the last one, in microseconds.
+const PAUSE: u64 = 200;
 
 /// So many changes without a pause between them are each noted.
 const EACH_NOTED: u32 = 64;
 
-/// After those a change is noted where the last one that was noted is so old, in microseconds.
+/// After those a change is noted where the last one that was noted began so long ago, in microseconds.
 const NOTE_PAUSE: u64 = 100;
 
 /// The right to change an open file, and how this run left it. Where the file moved without this run, or its lock can't
@@ -74,6 +74,11 @@ impl Guard {
         }
     }
 
+    /// How the file was found, or as this run left it; None where it changed the file and didn't look since.
+    pub(crate) fn stamp(&self) -> Option<Stamp> {
+        self.is_exact.then_some(self.stamp)
+    }
+
     /// The file may be changed, as far as it is known.
     fn check(&self) -> Result<(), Reason>
         ensures { IsBarred self.now → IsErr result }
@@ -118,7 +123,7 @@ impl Guard {
     {
         self.lock_for_change(file)?;
         let now = Instant::now(&self.rt).ok();
-        if has_passed(self.last, now, Duration::from_millis(PAUSE)) {
+        if has_passed(self.last, now, Duration::from_micros(PAUSE)) {
             self.look(file)?;
             self.changes = 0;
         }
@@ -172,13 +177,15 @@ impl Guard {
         self.note(file);
     }
 
-    /// Bytes of the file were changed. Costs a call of the system, but for most changes that come at once.
+    /// Bytes of the file were changed. Costs a reading of the clock, and a call of the system but for most changes that
+    /// come at once.
     pub(crate) fn after_bytes(&mut self, file: &File)
         ensures { self.new.unwritable ≡ self.old.unwritable }
     {
         self.changes = self.changes.saturating_add(1);
+        let now = Instant::now(&self.rt).ok();
         if self.changes <= EACH_NOTED
-            || has_passed(self.noted, self.last, Duration::from_micros(NOTE_PAUSE))
+            || has_passed(self.noted, now, Duration::from_micros(NOTE_PAUSE))
         {
             self.note(file);
         } else {

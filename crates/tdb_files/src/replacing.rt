@@ -1,14 +1,16 @@
 //! How a file gets another name, also one that a file has already.
 
 use crate::folder::sync_folder;
+use crate::holder::Holder;
 use crate::identity::Identity;
 use crate::manner::Manner;
-use crate::others::find_other;
-use crate::part::has_no_links;
-use crate::reason::{Reason, is_missing};
+use crate::others::{find_other, find_part_locker};
+use crate::part::{has_no_links, is_free};
+use crate::reason::Reason;
 use std::fs::{self, Metadata, Permissions};
-use std::io;
 use std::os::unix::fs::{MetadataExt, PermissionsExt, chown};
+use std::time::Duration;
+use std::{io, thread};
 
 /// The permissions of the owner, the group and all others.
 const ALL_PERMISSIONS: u32 = 0o777;
@@ -18,6 +20,12 @@ const GROUP_PERMISSIONS: u32 = 0o070;
 
 /// How many refused files of one name are kept.
 const MOST_REFUSED: u32 = 1000;
+
+/// How often the table of locks is looked at before a refused file is replaced.
+const LOOKS: u32 = 20;
+
+/// The pause behind each of those looks, in milliseconds.
+const LOOK_PAUSE: u64 = 10;
 
 /// Who may use a file: its permissions, its owner and its group.
 #[derive(Clone, Copy, Debug, PartialEq, Eq)]
@@ -38,11 +46,49 @@ impl Access {
     }
 }
 
-/// The file may be replaced: no other program has it open, as far as that can be seen, or it is to be shared.
-fn check_replaced(rt: &HostRuntime, replaced: &Metadata, manner: Manner) -> Result<(), Reason> {
-    match find_other(rt, Identity::of(replaced)) {
-        Some(holder) if !manner.is_shared => Err(Reason::Elsewhere(holder)),
-        _ => Ok(()),
+/// The regular file at a name that one at another name is to replace, or to which a link at it leads; None where there
+/// is no such one.
+fn find_replaced(rt: &HostRuntime, from: &str, to: &str) -> Option<Metadata> {
+    let moved = fs::symlink_metadata(rt, from).ok()?;
+    let replaced = fs::metadata(rt, to).ok()?;
+    (moved.is_file() && replaced.is_file()).then_some(replaced)
+}
+
+/// Another program that has a file locked or open which was refused. The table of locks is looked at several times: a
+/// program that changes the file in a loop has a lock for a part of the time, and leaves what is refused in between.
+fn find_changer(rt: &HostRuntime, file: Identity) -> Option<Holder> {
+    for _ in 0..LOOKS {
+        if let Some(holder) = find_part_locker(rt, file) {
+            return Some(holder);
+        }
+        thread::sleep(rt, Duration::from_millis(LOOK_PAUSE));
+    }
+    find_other(rt, file)
+}
+
+/// The file may be replaced: no other program has it open, as far as that can be seen, or it is to be shared. For one
+/// that is to be kept, as it was refused, it takes 0.2 seconds.
+pub(crate) fn check_replaced(
+    rt: &HostRuntime,
+    from: &str,
+    to: &str,
+    manner: Manner,
+) -> Result<(), Reason> {
+    let Some(replaced) = find_replaced(rt, from, to) else {
+        return Ok(());
+    };
+    if manner.is_shared {
+        return Ok(());
+    }
+    let file = Identity::of(&replaced);
+    let holder = if manner.keeps_replaced {
+        find_changer(rt, file)
+    } else {
+        find_other(rt, file)
+    };
+    match holder {
+        Some(holder) => Err(Reason::Elsewhere(holder)),
+        None => Ok(()),
     }
 }
 
@@ -81,26 +127,20 @@ fn keep_replaced(rt: &HostRuntime, name: &str) -> io::Result<()> {
 }
 
 /// Gives the file at `from` the name `to`. A regular file that is replaced passes its permissions, its group and its
-/// owner on, as far as the system allows it. One that another program has open isn't replaced, unless it is shared, and
-/// one that is to be kept stays under another name. The folder of the new name is synced then, so that the name is on
-/// the medium; a folder that may not be opened, or whose file system can't sync it, is left to the system. Where
-/// nothing is at `from`, nothing is done.
+/// owner on, as far as the system allows it, and one that is to be kept stays under another name. Where `to` is a link,
+/// that is replaced or kept, and the file to which it leads stays as it is. The folder of the new name is synced then,
+/// so that the name is on the medium; a folder that may not be opened, or whose file system can't sync it, is left to
+/// the system. Where nothing is at `from`, nothing is done.
 pub(crate) fn replace(
     rt: &HostRuntime,
     from: &str,
     to: &str,
     manner: Manner,
 ) -> Result<(), Reason> {
-    let moved = match fs::symlink_metadata(rt, from) {
-        Ok(found) => found,
-        Err(error) if is_missing(&error) => return Ok(()),
-        Err(error) => return Err(error.into()),
-    };
-    if let Ok(replaced) = fs::symlink_metadata(rt, to)
-        && moved.is_file()
-        && replaced.is_file()
-    {
-        check_replaced(rt, &replaced, manner)?;
+    if is_free(rt, from)? {
+        return Ok(());
+    }
+    if let Some(replaced) = find_replaced(rt, from, to) {
         if manner.keeps_replaced {
             keep_replaced(rt, to)?;
         }
