@@ -1,7 +1,7 @@
 #!/usr/bin/python3
-"""Starts many runs of tdb at once, and kills runs at random moments; prints what came.
+"""Starts many runs of the program at once, kills runs at random moments and at each call, and prints what came.
 
-Usage: many_runs.py PROGRAM [STORES] [KILLS]
+Wanted: strace, for the kills at each call that changes a file. Usage: many_runs.py PROGRAM [STORES [KILLS]]
 """
 
 import os, random, shutil, subprocess, sys, tempfile, time
@@ -9,6 +9,18 @@ import os, random, shutil, subprocess, sys, tempfile, time
 PROGRAM = os.path.abspath(sys.argv[1])
 STORES = int(sys.argv[2]) if len(sys.argv) > 2 else 200
 KILLS = int(sys.argv[3]) if len(sys.argv) > 3 else 100
+CALLS = ("flock,ftruncate,pwrite64,fsync,link,linkat,unlink,unlinkat,rename,renameat,renameat2,chmod,fchmod,fchmodat,"
+         "chown,fchown,fchownat,write")
+
+# What is made: the words, whether the text of a dump is the input, the new file, and what stands there before.
+MAKERS = {
+    "create": (["tool", "new.tdb", "create"], False, "new.tdb", None),
+    "restore": (["restore", "new.tdb"], True, "new.tdb", None),
+    "gen": (["gen", "300", "1", "new.tdb"], False, "new.tdb", None),
+    "backup": (["backup", "f.tdb"], False, "f.tdb.bak", None),
+    "backup, over an old copy": (["backup", "f.tdb"], False, "f.tdb.bak", "old.tdb"),
+    "backup -v, of a cut file": (["backup", "-v", "g.tdb"], False, "g.tdb", "cut.tdb"),
+}
 
 
 def run(*words, data=None):
@@ -23,44 +35,96 @@ def stores_at_once():
     for started in runs:
         out, err = started.communicate()
         answers[(out, err)] = answers.get((out, err), 0) + 1
-    print("stores at once:", answers, run("tool", "f.tdb", "check").stdout)
+    print("%d stores at once:" % STORES, answers, run("tool", "f.tdb", "check").stdout)
 
 
-def killed(name, words, file, data=None):
-    """How often the file isn't there, or is whole, after a run that is killed at a random moment."""
-    with open("input", "wb") as source:
-        source.write(data or b"")
-    start = time.time()
-    run(*words, data=data)
-    span = time.time() - start
-    seen = {}
-    for _ in range(KILLS):
-        if os.path.exists(file):
-            os.unlink(file)
-        with open("input", "rb") as source:
-            started = subprocess.Popen([PROGRAM, *words], stdin=source, stdout=subprocess.DEVNULL,
-                                       stderr=subprocess.DEVNULL)
-        time.sleep(random.uniform(0, span * 1.1))
+def set_up(maker):
+    """The folder as it is before the run, and its input."""
+    _, has_input, file, before = MAKERS[maker]
+    for name in set(os.listdir(".")) - {"f.tdb", "old.tdb", "cut.tdb", "g.tdb.bak", "dump", "trace"}:
+        os.unlink(name)
+    if before:
+        shutil.copy(before, file)
+    return open("dump" if has_input else os.devnull, "rb")
+
+
+def state(maker):
+    """What stands at the name of the new file: as it was before the run, whole, or something else."""
+    _, _, file, before = MAKERS[maker]
+    if not os.path.exists(file):
+        return "no file"
+    if before and open(file, "rb").read() == open(before, "rb").read():
+        return "as before"
+    dumped = run("dump", file)
+    return "whole" if dumped.returncode == 0 and dumped.stdout == WHOLE[maker] else "DAMAGED: " + str(dumped.stdout[:40])
+
+
+def after(maker, traced=()):
+    """What a run leaves in the folder."""
+    with set_up(maker) as source:
+        subprocess.run([*traced, PROGRAM, *MAKERS[maker][0]], stdin=source, capture_output=True)
+    return sorted(os.listdir("."))
+
+
+WHOLE = {}
+
+
+def tried(maker, kills):
+    """Counts what is found after each of the kills, each of which runs the words and kills them; and what is left in the
+    folder once the words were run again."""
+    seen, left = {}, {}
+    whole = after(maker)
+    for kill in kills:
+        with set_up(maker) as source:
+            kill(source)
+        found = state(maker)
+        seen[found] = seen.get(found, 0) + 1
+        with open("dump", "rb") as source:
+            subprocess.run([PROGRAM, *MAKERS[maker][0]], stdin=source, capture_output=True)
+        if state(maker) != "whole":
+            seen["NOT WHOLE after the next run"] = seen.get("NOT WHOLE after the next run", 0) + 1
+        for name in set(os.listdir(".")) - set(whole):
+            left[name] = left.get(name, 0) + 1
+    return "%s; left after the next run: %s" % (", ".join("%s %d" % pair for pair in sorted(seen.items())), left or "nothing")
+
+
+def at_random(words, span):
+    """Kills the run at a moment of this span."""
+    def kill(source):
+        started = subprocess.Popen([PROGRAM, *words], stdin=source, stdout=subprocess.DEVNULL, stderr=subprocess.DEVNULL)
+        time.sleep(random.uniform(0, span * 1.2))
         started.kill()
-        started.communicate()
-        answer = run("tool", file, "check").stdout.decode().strip() if os.path.exists(file) else "no file"
-        seen[answer] = seen.get(answer, 0) + 1
-    if os.path.exists(file):
-        os.unlink(file)
-    run(*words, data=data)
-    left = [name for name in os.listdir(".") if name.endswith(".tdb-new")]
-    print(name, "killed:", seen, "left after the next run:", left)
+        started.wait()
+    return kill
+
+
+def at_call(words, number):
+    """Kills the run at its call with this number, counted from 1, of those that change a file."""
+    def kill(source):
+        traced = ["strace", "-f", "-qq", "-o", "trace", "-e", "inject=%s:signal=KILL:when=%d" % (CALLS, number)]
+        subprocess.run([*traced, PROGRAM, *words], stdin=source, capture_output=True)
+    return kill
 
 
 def main():
     folder = tempfile.mkdtemp(prefix="runs")
     os.chdir(folder)
     stores_at_once()
-    dump = run("dump", "f.tdb").stdout
-    killed("create", ["tool", "new.tdb", "create"], "new.tdb")
-    killed("restore", ["restore", "new.tdb"], "new.tdb", dump)
-    killed("gen", ["gen", "300", "1", "new.tdb"], "new.tdb")
-    killed("backup", ["backup", "f.tdb"], "f.tdb.bak")
+    open("dump", "wb").write(run("dump", "f.tdb").stdout)
+    run("tool", "old.tdb", "create")
+    shutil.copy("f.tdb", "g.tdb.bak")
+    shutil.copy("f.tdb", "cut.tdb")
+    os.truncate("cut.tdb", 4000)
+    for maker, (words, _, file, _) in MAKERS.items():
+        after(maker)
+        WHOLE[maker] = run("dump", file).stdout
+        start = time.time()
+        after(maker)
+        span = time.time() - start
+        print(maker, "killed at random:", tried(maker, [at_random(words, span)] * KILLS), flush=True)
+        after(maker, ["strace", "-f", "-qq", "-o", "trace", "-e", "trace=" + CALLS])
+        calls = len([line for line in open("trace") if " = " in line])
+        print(maker, "killed at each call:", tried(maker, [at_call(words, n + 1) for n in range(calls)]), flush=True)
     shutil.rmtree(folder)
 
 
