@@ -1,13 +1,13 @@
 #!/usr/bin/python3
 """Runs each command beside a process of the stock library, and prints a table of what came.
 
-As root each command is run as root and as `nobody`; the stock process is root's. Behind a
-command stands in how many of its rounds that came, where it wasn't in each. Usage: beside_stock.py PROGRAM [ROUNDS]
+As root each command is run as root and as `nobody`; the stock process is root's. Behind a command stands in how many of
+its rounds that came, where it wasn't in each. Usage: beside_stock.py PROGRAM [ROUNDS]
 """
 
 import os, re, shutil, sys, tempfile
 
-from stock import STATES, Stock, make, run
+from stock import KEYS, STATES, Stock, make, opened, run
 
 ROUNDS = int(sys.argv[2]) if len(sys.argv) > 2 else 1
 DUMP = '{\nkey(1) = "a"\ndata(1) = "1"\n}\n'
@@ -44,6 +44,12 @@ def is_done(name, ran):
     return ran.returncode == 0 and ran.stdout.endswith(wanted)
 
 
+def lost_in_copy():
+    """What a copy lacks that was in the file before the stock process began."""
+    copy = opened("f.tdb.bak")
+    return ["the copy lacks key%d" % n for n in range(KEYS) if copy.get(b"key%d" % n) is None]
+
+
 def beside(state, name, user):
     """The answer, what is told on standard error, and what is lost, of a command beside a stock process."""
     words, data, there, gone = COMMANDS[name]
@@ -55,6 +61,7 @@ def beside(state, name, user):
     stock.end()
     if is_done(name, ran):
         answer, lost = "done", stock.lost(there, gone)
+        lost += lost_in_copy() if name == "backup" else []
     else:
         # Which fault is met first, and where, hangs on the moment.
         answer = "`%s`" % re.sub("^corrupt .*", "corrupt ..", ran.stdout.strip().split("\n")[-1][:40])

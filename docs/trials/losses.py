@@ -112,30 +112,25 @@ def changed_beneath(change, is_held, pause):
     return tried
 
 
-def healthy(make_it):
-    """A `backup -v` of a file that the stock tools call healthy."""
+def healthy(begin, is_held):
+    """A `backup -v` of a file that the stock tools call healthy, open in a process or not."""
     def tried(user):
-        held = make_it()
+        make().close()
+        copy = content()
+        stock = Stock(begin)
+        if not is_held:
+            stock.end()
         assert "integrity is OK" in subprocess.run(["tdbtool", "f.tdb", "check"], capture_output=True, text=True).stdout
-        shutil.copy("f.tdb", "f.tdb.bak")
-        os.chmod("f.tdb.bak", 0o666)
+        with open("f.tdb.bak", "wb") as bak:
+            bak.write(copy)
         before = os.stat("f.tdb").st_ino, content()
         answer = run("backup", "-v", "f.tdb", user=user).stdout.strip().replace("\n", ", ")
         after = os.stat("f.tdb").st_ino, content()
+        if is_held:
+            stock.end()
         kept = [name for name in os.listdir(".") if ".refused" in name]
-        if held:
-            held.close()
         return [answer], [] if after == before else ["FILE is replaced, kept as %s" % kept]
     return tried
-
-
-def closed():
-    make().close()
-
-
-def in_use():
-    make().close()
-    return opened()
 
 
 def recovered():
@@ -144,7 +139,7 @@ def recovered():
     stock = Stock("is between prepare and commit")
     os.kill(stock.process, signal.SIGKILL)
     os.waitpid(stock.process, 0)
-    opened().close()
+    return opened()
 
 
 def with_mutexes():
@@ -158,10 +153,11 @@ TRIALS = {
     "loop of backup -v beside commits": loop_of(["backup", "-v", "f.tdb"], "commits in a loop"),
     "loop of backup -v beside stores": loop_of(["backup", "-v", "f.tdb"], "stores in a loop"),
     "loop of stores beside stores": loop_of_stores,
-    "backup -v of a healthy file": healthy(closed),
-    "backup -v of a file in use": healthy(in_use),
-    "backup -v of a file that the stock library recovered": healthy(recovered),
-    "backup -v of a file with mutexes, in use": healthy(with_mutexes),
+    "backup -v of a healthy file": healthy(opened, False),
+    "backup -v of a file in use": healthy(opened, True),
+    "backup -v of a file that the stock library recovered": healthy(recovered, False),
+    "backup -v of a file with mutexes, in use": healthy(with_mutexes, True),
+    "backup -v of a file with mutexes, not in use": healthy(with_mutexes, False),
 }
 CHANGES = {
     "changed": (stores, False),

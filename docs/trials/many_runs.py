@@ -1,10 +1,10 @@
 #!/usr/bin/python3
-"""Starts many runs of the program at once, kills runs at random moments and at each call, and prints what came.
+"""Starts many runs of the program at once, kills runs at random moments and behind each call, and prints what came.
 
-Wanted: strace, for the kills at each call that changes a file. Usage: many_runs.py PROGRAM [STORES [KILLS]]
+Wanted: strace, for the kills behind each call that changes a file. Usage: many_runs.py PROGRAM [STORES [KILLS]]
 """
 
-import os, random, shutil, subprocess, sys, tempfile, time
+import os, random, re, shutil, subprocess, sys, tempfile, time
 
 PROGRAM = os.path.abspath(sys.argv[1])
 STORES = int(sys.argv[2]) if len(sys.argv) > 2 else 200
@@ -98,12 +98,19 @@ def at_random(words, span):
     return kill
 
 
-def at_call(words, number):
-    """Kills the run at its call with this number, counted from 1, of those that change a file."""
+def at_call(words, name, number):
+    """Kills the run behind its call of this name with this number, counted from 1."""
     def kill(source):
-        traced = ["strace", "-f", "-qq", "-o", "trace", "-e", "inject=%s:signal=KILL:when=%d" % (CALLS, number)]
+        traced = ["strace", "-f", "-qq", "-o", "trace", "-e", "inject=%s:signal=KILL:when=%d" % (name, number)]
         subprocess.run([*traced, PROGRAM, *words], stdin=source, capture_output=True)
     return kill
+
+
+def calls_of(maker):
+    """The calls of a run that change a file: the name of each, and its number among those of the name."""
+    after(maker, ["strace", "-f", "-qq", "-o", "trace", "-e", "trace=" + CALLS])
+    names = [line.split()[1].split("(")[0] for line in open("trace") if ") = " in re.sub(" +", " ", line)]
+    return [(name, names[:place].count(name) + 1) for place, name in enumerate(names)]
 
 
 def main():
@@ -122,9 +129,7 @@ def main():
         after(maker)
         span = time.time() - start
         print(maker, "killed at random:", tried(maker, [at_random(words, span)] * KILLS), flush=True)
-        after(maker, ["strace", "-f", "-qq", "-o", "trace", "-e", "trace=" + CALLS])
-        calls = len([line for line in open("trace") if " = " in line])
-        print(maker, "killed at each call:", tried(maker, [at_call(words, n + 1) for n in range(calls)]), flush=True)
+        print(maker, "killed behind each call:", tried(maker, [at_call(words, *call) for call in calls_of(maker)]), flush=True)
     shutil.rmtree(folder)
 
 

@@ -75,11 +75,10 @@ STATES = {
 }
 
 
-def work(state, pipe):
+def work(begin, again, pipe):
     """The process: says that it is ready, goes on until it is ended, commits, and says how often it went round."""
     ended, done = [], 0
     signal.signal(signal.SIGTERM, lambda *_: ended.append(1))
-    begin, again = STATES[state]
     held = begin()
     os.write(pipe, b"r")
     while not ended:
@@ -94,15 +93,17 @@ def work(state, pipe):
 
 
 class Stock:
-    """The process in one of the states, and after its end how often it went round, and its status."""
+    """The process in one of the states, or which begins so, and after its end how often it went round, and its status.
+
+    It is a process of its own, since a process that closes a file once loses all its locks on it."""
 
     def __init__(self, state):
-        self.state = state
+        self.begin, again = STATES.get(state, (state, None))
         self.pipe, other = os.pipe()
         self.process = os.fork()
         if self.process == 0:
             try:
-                work(state, other)
+                work(self.begin, again, other)
                 os._exit(0)
             except BaseException as error:
                 os.write(2, b"stock process: %s\n" % str(error).encode())
@@ -119,7 +120,7 @@ class Stock:
     def committed(self):
         """The keys that it committed before it ended."""
         keys = {b"loop%d" % n for n in range(self.done)} | {b"key%d" % n for n in range(KEYS)}
-        return keys | {b"stock"} if STATES[self.state][0] in (in_transaction, prepared) else keys
+        return keys | {b"stock"} if self.begin in (in_transaction, prepared) else keys
 
     def lost(self, there=(), gone=()):
         """What isn't as it should be: its end, its keys and these that are to be there, and these that aren't."""
