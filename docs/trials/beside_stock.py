@@ -90,7 +90,7 @@ def main():
                     counts[name] = counts.get(name, 0) + 1
             for (answer, told, lost), counts in seen.items():
                 names = ", ".join(name if n == ROUNDS else "%s (%d)" % (name, n) for name, n in counts.items())
-                print("| %s | %s | %s | %s | %s | %s |" % (state, user or "root", names, answer, told, lost), flush=True)
+                print("|", " | ".join([state, user or "root", names, answer, told, lost]), "|", flush=True)
     shutil.rmtree(folder)
 
 

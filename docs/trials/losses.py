@@ -1,8 +1,8 @@
 #!/usr/bin/python3
 """Tries many times what lost data beside the stock library, and prints how often something was lost.
 
-As root each is tried as root and as `nobody`; the stock process is root's. Usage: losses.py PROGRAM [TRIES [SECONDS
-[NAME]]], where a loop of runs goes on for so many seconds, and NAME is how the names of what is tried begin.
+As root each is tried as root and as `nobody`; the stock process is root's. A loop of runs goes on for so many seconds.
+Only what begins with NAME is tried, where it is said. Usage: losses.py PROGRAM [TRIES [SECONDS [NAME]]]
 """
 
 import os, shutil, signal, subprocess, sys, tempfile, time

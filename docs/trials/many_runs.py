@@ -22,6 +22,9 @@ MAKERS = {
     "backup -v, of a cut file": (["backup", "-v", "g.tdb"], False, "g.tdb", "cut.tdb"),
 }
 
+# What a whole run makes, by maker.
+WHOLE = {}
+
 
 def run(*words, data=None):
     return subprocess.run([PROGRAM, *words], input=data, capture_output=True)
@@ -56,7 +59,8 @@ def state(maker):
     if before and open(file, "rb").read() == open(before, "rb").read():
         return "as before"
     dumped = run("dump", file)
-    return "whole" if dumped.returncode == 0 and dumped.stdout == WHOLE[maker] else "DAMAGED: " + str(dumped.stdout[:40])
+    is_whole = dumped.returncode == 0 and dumped.stdout == WHOLE[maker]
+    return "whole" if is_whole else "DAMAGED: " + str(dumped.stdout[:40])
 
 
 def after(maker, traced=()):
@@ -66,12 +70,8 @@ def after(maker, traced=()):
     return sorted(os.listdir("."))
 
 
-WHOLE = {}
-
-
 def tried(maker, kills):
-    """Counts what is found after each of the kills, each of which runs the words and kills them; and what is left in the
-    folder once the words were run again."""
+    """Counts what is found after each of the kills, and what is left in the folder once the words were run again."""
     seen, left = {}, {}
     whole = after(maker)
     for kill in kills:
@@ -85,20 +85,22 @@ def tried(maker, kills):
             seen["NOT WHOLE after the next run"] = seen.get("NOT WHOLE after the next run", 0) + 1
         for name in set(os.listdir(".")) - set(whole):
             left[name] = left.get(name, 0) + 1
-    return "%s; left after the next run: %s" % (", ".join("%s %d" % pair for pair in sorted(seen.items())), left or "nothing")
+    found = ", ".join("%s %d" % pair for pair in sorted(seen.items()))
+    return "%s; left after the next run: %s" % (found, left or "nothing")
 
 
 def at_random(words, span):
     """Kills the run at a moment of this span."""
     def kill(source):
-        started = subprocess.Popen([PROGRAM, *words], stdin=source, stdout=subprocess.DEVNULL, stderr=subprocess.DEVNULL)
+        started = subprocess.Popen([PROGRAM, *words], stdin=source, stdout=subprocess.DEVNULL,
+                                   stderr=subprocess.DEVNULL)
         time.sleep(random.uniform(0, span * 1.2))
         started.kill()
         started.wait()
     return kill
 
 
-def at_call(words, name, number):
+def behind_call(words, name, number):
     """Kills the run behind its call of this name with this number, counted from 1."""
     def kill(source):
         traced = ["strace", "-f", "-qq", "-o", "trace", "-e", "inject=%s:signal=KILL:when=%d" % (name, number)]
@@ -129,7 +131,8 @@ def main():
         after(maker)
         span = time.time() - start
         print(maker, "killed at random:", tried(maker, [at_random(words, span)] * KILLS), flush=True)
-        print(maker, "killed behind each call:", tried(maker, [at_call(words, *call) for call in calls_of(maker)]), flush=True)
+        behind = [behind_call(words, *call) for call in calls_of(maker)]
+        print(maker, "killed behind each call:", tried(maker, behind), flush=True)
     shutil.rmtree(folder)
 
 

@@ -73,7 +73,8 @@ def main():
             runs = [measured(words) for _ in range(RUNS)]
             answer, memory = runs[0][0], max(run[1] for run in runs)
             processor, spent = min(run[2] for run in runs), min(run[3] for run in runs)
-            print("| %s | %s | `%s` | %.1f MiB | %.2f s | %.2f s |" % (file, command, answer, memory / 1024, processor, spent))
+            print("| %s | %s | `%s` | %.1f MiB | %.2f s | %.2f s |" %
+                  (file, command, answer, memory / 1024, processor, spent))
     shutil.rmtree(os.getcwd())
 
 
