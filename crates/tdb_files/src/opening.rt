@@ -176,23 +176,67 @@ fn open_existing(
 /// How often a new file is tried to be made, where other runs make the same one.
 const TRIES: u32 = 1000;
 
-/// Sees that nothing has the name of a new file. Where one of its name was removed just before, one that is there again
-/// is another run's, which makes the same file: it is waited for, and removed where it was left.
-fn free_name(rt: &HostRuntime, name: &str, manner: Manner, is_anew: bool) -> Result<(), Refusal>
+/// Whether nothing has the name of a new file. Where one of its name was removed just before, one that is there again
+/// is another run's, which makes the same file: it is waited for, and removed where it was left. It is false then, as a
+/// third run may have the name since.
+fn is_name_free(
+    rt: &HostRuntime,
+    name: &str,
+    manner: Manner,
+    is_anew: bool,
+) -> Result<bool, Refusal>
     ensures { IsErrOf result refusal.Missing → ⊥ }
 {
-    if is_anew && let Err(reason) = remove_unused(rt, name, manner.seconds) {
-        return Err(Refusal::Failed(reason));
-    }
     match is_free(rt, name) {
-        Ok(true) => Ok(()),
+        Ok(true) => Ok(true),
+        Ok(false) if is_anew => match remove_unused(rt, name, manner.seconds) {
+            Ok(()) => Ok(false),
+            Err(reason) => Err(Refusal::Failed(reason)),
+        },
         Ok(false) => Err(Refusal::There),
         Err(error) => Err(Refusal::Failed(error.into())),
     }
 }
 
-/// Makes a new file under the name that it has until it is whole, and locks it. No other run can give its name to a file
-/// of its own then, so that name is looked at once more.
+/// Waits until nothing has the name of a new file, where only other runs that make the same one have it.
+fn free_name(rt: &HostRuntime, name: &str, manner: Manner, is_anew: bool) -> Result<(), Refusal>
+    ensures { IsErrOf result refusal.Missing → ⊥ }
+{
+    for _ in 0..TRIES {
+        if is_name_free(rt, name, manner, is_anew)? {
+            return Ok(());
+        }
+    }
+    Err(Refusal::Failed(Reason::InUse))
+}
+
+/// Makes a new file under the name that it has until it is whole, and locks it, where its own name is free. No other run
+/// can give that name to a file of its own then, so it is looked at once more. None where another run makes the same
+/// file: that one was waited for.
+fn try_make_part(
+    rt: &HostRuntime,
+    part: &Part,
+    name: &str,
+    manner: Manner,
+    is_anew: bool,
+) -> Result<Option<File>, Refusal>
+    ensures { IsErrOf result refusal.Missing → ⊥ }
+{
+    free_name(rt, name, manner, is_anew)?;
+    match part.try_make(rt, manner.seconds) {
+        Ok(Some(file)) => match free_name(rt, name, manner, is_anew) {
+            Ok(()) => Ok(Some(file)),
+            Err(refusal) => {
+                part.discard(rt);
+                Err(refusal)
+            }
+        },
+        Ok(None) => Ok(None),
+        Err(reason) => Err(Refusal::Failed(reason)),
+    }
+}
+
+/// Makes a new file under the name that it has until it is whole, and locks it.
 fn make_part(
     rt: &HostRuntime,
     part: &Part,
@@ -203,19 +247,8 @@ fn make_part(
     ensures { IsErrOf result refusal.Missing → ⊥ }
 {
     for _ in 0..TRIES {
-        free_name(rt, name, manner, is_anew)?;
-        match part.try_make(rt, manner.seconds) {
-            Ok(Some(file)) => {
-                return match free_name(rt, name, manner, is_anew) {
-                    Ok(()) => Ok(file),
-                    Err(refusal) => {
-                        part.discard(rt);
-                        Err(refusal)
-                    }
-                };
-            }
-            Ok(None) => {}
-            Err(reason) => return Err(Refusal::Failed(reason)),
+        if let Some(file) = try_make_part(rt, part, name, manner, is_anew)? {
+            return Ok(file);
         }
     }
     Err(Refusal::Failed(Reason::InUse))
