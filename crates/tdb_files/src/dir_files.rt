@@ -135,7 +135,7 @@ impl DirFiles {
 
     /// What is known of a file of this name, if it is to be made.
     fn prepare(&mut self, name: &str) -> Making
-        ensures { self.new ≡ record self.old { named = self.new.named; removed = self.new.removed } }
+        ensures rest { self.new ≡ record self.old { named = self.new.named; removed = self.new.removed } }
     {
         self.named = None;
         let is_anew = match self.removed.take() {

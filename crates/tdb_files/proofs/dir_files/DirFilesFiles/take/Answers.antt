@@ -6,20 +6,32 @@ use Rattle.tdb_files.proofs.dir_files.DirFilesFiles.take.Goals as goal
 pub returns-in-Missing-clause-refused_taken : goal.returns-in-Missing-clause-refused_taken
 returns-in-Missing-clause-refused_taken c =
     same_after_two c.args.name.now (name_is_taken c.args.self.now) (name_is_taken c.mark.new.self) (name_is_taken c.unmark-kept.new.self)
-    c.in_ok-mark.ensures.others c.unmark-kept.ensures.others (c.unmark-kept.ensures.free ∙ sym c.requires)
+    c.in_ok-mark.ensures.others
+    (λ other apart. c.unmark-kept.ensures.others other apart
+        ∙ ap (λ files. name_is_taken files other) c.prepare-making.ensures.rest)
+    (c.unmark-kept.ensures.free ∙ sym c.requires)
 
 pub returns-in-There-clause-refused_taken : goal.returns-in-There-clause-refused_taken
 returns-in-There-clause-refused_taken c =
     same_after_two c.args.name.now (name_is_taken c.args.self.now) (name_is_taken c.mark.new.self) (name_is_taken c.unmark-kept.new.self)
-    c.in_ok-mark.ensures.others c.unmark-kept.ensures.others (c.unmark-kept.ensures.free ∙ sym c.requires)
+    c.in_ok-mark.ensures.others
+    (λ other apart. c.unmark-kept.ensures.others other apart
+        ∙ ap (λ files. name_is_taken files other) c.prepare-making.ensures.rest)
+    (c.unmark-kept.ensures.free ∙ sym c.requires)
 
 pub returns-in-Memory-clause-refused_taken : goal.returns-in-Memory-clause-refused_taken
 returns-in-Memory-clause-refused_taken c =
     same_after_two c.args.name.now (name_is_taken c.args.self.now) (name_is_taken c.mark.new.self) (name_is_taken c.unmark-kept.new.self)
-    c.in_ok-mark.ensures.others c.unmark-kept.ensures.others (c.unmark-kept.ensures.free ∙ sym c.requires)
+    c.in_ok-mark.ensures.others
+    (λ other apart. c.unmark-kept.ensures.others other apart
+        ∙ ap (λ files. name_is_taken files other) c.prepare-making.ensures.rest)
+    (c.unmark-kept.ensures.free ∙ sym c.requires)
 
 pub returns-in-Failed-clause-refused_taken : goal.returns-in-Failed-clause-refused_taken
 returns-in-Failed-clause-refused_taken c = λ other.
     ap (λ files. name_is_taken files other) c.fault.ensures.rest
     ∙ same_after_two c.args.name.now (name_is_taken c.args.self.now) (name_is_taken c.mark.new.self) (name_is_taken c.unmark-kept.new.self)
-    c.in_ok-mark.ensures.others c.unmark-kept.ensures.others (c.unmark-kept.ensures.free ∙ sym c.requires) other
+    c.in_ok-mark.ensures.others
+    (λ other apart. c.unmark-kept.ensures.others other apart
+        ∙ ap (λ files. name_is_taken files other) c.prepare-making.ensures.rest)
+    (c.unmark-kept.ensures.free ∙ sym c.requires) other
