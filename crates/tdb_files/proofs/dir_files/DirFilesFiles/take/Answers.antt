@@ -8,7 +8,7 @@ returns-in-Missing-clause-refused_taken c =
     same_after_two c.args.name.now (name_is_taken c.args.self.now) (name_is_taken c.mark.new.self) (name_is_taken c.unmark-kept.new.self)
     c.in_ok-mark.ensures.others
     (λ other apart. c.unmark-kept.ensures.others other apart
-        ∙ ap (λ files. name_is_taken files other) c.prepare-making.ensures.rest)
+    ∙ ap (λ files. name_is_taken files other) c.prepare-making.ensures.rest)
     (c.unmark-kept.ensures.free ∙ sym c.requires)
 
 pub returns-in-There-clause-refused_taken : goal.returns-in-There-clause-refused_taken
@@ -16,7 +16,7 @@ returns-in-There-clause-refused_taken c =
     same_after_two c.args.name.now (name_is_taken c.args.self.now) (name_is_taken c.mark.new.self) (name_is_taken c.unmark-kept.new.self)
     c.in_ok-mark.ensures.others
     (λ other apart. c.unmark-kept.ensures.others other apart
-        ∙ ap (λ files. name_is_taken files other) c.prepare-making.ensures.rest)
+    ∙ ap (λ files. name_is_taken files other) c.prepare-making.ensures.rest)
     (c.unmark-kept.ensures.free ∙ sym c.requires)
 
 pub returns-in-Memory-clause-refused_taken : goal.returns-in-Memory-clause-refused_taken
@@ -24,7 +24,7 @@ returns-in-Memory-clause-refused_taken c =
     same_after_two c.args.name.now (name_is_taken c.args.self.now) (name_is_taken c.mark.new.self) (name_is_taken c.unmark-kept.new.self)
     c.in_ok-mark.ensures.others
     (λ other apart. c.unmark-kept.ensures.others other apart
-        ∙ ap (λ files. name_is_taken files other) c.prepare-making.ensures.rest)
+    ∙ ap (λ files. name_is_taken files other) c.prepare-making.ensures.rest)
     (c.unmark-kept.ensures.free ∙ sym c.requires)
 
 pub returns-in-Failed-clause-refused_taken : goal.returns-in-Failed-clause-refused_taken
@@ -33,5 +33,5 @@ returns-in-Failed-clause-refused_taken c = λ other.
     ∙ same_after_two c.args.name.now (name_is_taken c.args.self.now) (name_is_taken c.mark.new.self) (name_is_taken c.unmark-kept.new.self)
     c.in_ok-mark.ensures.others
     (λ other apart. c.unmark-kept.ensures.others other apart
-        ∙ ap (λ files. name_is_taken files other) c.prepare-making.ensures.rest)
+    ∙ ap (λ files. name_is_taken files other) c.prepare-making.ensures.rest)
     (c.unmark-kept.ensures.free ∙ sym c.requires) other
