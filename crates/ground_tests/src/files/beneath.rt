@@ -1,5 +1,6 @@
 // Changes of a file by another program while it is taken.
 
+use crate::files::disks::{Call, is_done};
 use crate::files::folder::lay;
 use std::fs::{self, OpenOptions};
 use std::os::unix::fs::FileExt;
@@ -79,9 +80,9 @@ fn change_holds(rt: HostRuntime, row: (Change, bool)) -> io::Result<bool> {
     let Ok(mut disk) = files.take(rt.alloc(), FILE, Take::Existing) else {
         return Ok(false);
     };
-    let is_first = disk.write(0, b"first").is_ok();
+    let is_first = is_done(&mut disk, Call::Write(0, b"first")) == Some(true);
     make_change(rt, what)?;
-    let is_second = disk.write(3, b"?").is_ok();
+    let is_second = is_done(&mut disk, Call::Write(3, b"?")) == Some(true);
     let is_synced = disk.sync().is_ok();
     files.give(FILE, disk);
     let mut byte = [0];

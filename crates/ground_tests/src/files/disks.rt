@@ -11,7 +11,7 @@ const FILE: &str = "tdb_files_test/disk";
 const PART: &str = "tdb_files_test/disk.tdb-new";
 
 #[derive(Clone, Copy)]
-enum Call {
+pub(crate) enum Call {
     Grow(u64),
     Write(u64, &'static [u8]),
     WriteWord(u64, [u8; 4]),
@@ -98,7 +98,7 @@ static CASES: [(&'static str, Case); 3] = [
 ];
 
 /// Makes a call, and says whether it is done. None where it has no place in the file.
-fn is_done<D: Disk>(disk: &mut D, call: Call) -> Option<bool> {
+pub(crate) fn is_done<D: Disk>(disk: &mut D, call: Call) -> Option<bool> {
     let len = disk.len().ok()?;
     let answer = match call {
         Call::Grow(to) if len <= to => disk.grow(to),

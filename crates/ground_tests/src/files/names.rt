@@ -97,19 +97,25 @@ const KEPT: &str = "tdb_files_test/to.refused";
 
 const KEPT_NEXT: &str = "tdb_files_test/to.refused.1";
 
-/// Whether each file that is replaced is kept under the next of its names.
-fn keeps(rt: HostRuntime) -> io::Result<bool> {
-    folder::make(rt)?;
+/// Lays a file, and says whether it takes the name of the one before, which is to be kept.
+fn replaces(rt: HostRuntime, content: &'static [u8]) -> io::Result<bool> {
+    lay(rt, FROM, content, 0o600)?;
     let mut files = DirFiles::new(rt).with_manner(Manner {
         keeps_replaced: true,
         ..Manner::new()
     });
-    let mut is_done = true;
+    Ok(files.rename(FROM, TO).is_ok())
+}
+
+/// Whether each file that is replaced is kept under the next of its names.
+fn keeps(rt: HostRuntime) -> io::Result<bool> {
+    folder::make(rt)?;
     for content in &REPLACED {
-        lay(rt, FROM, *content, 0o600)?;
-        is_done &= files.rename(FROM, TO).is_ok();
+        if !replaces(rt, *content)? {
+            return Ok(false);
+        }
     }
-    Ok(is_done && has(rt, TO, b"three") && has(rt, KEPT, b"one") && has(rt, KEPT_NEXT, b"two"))
+    Ok(has(rt, TO, b"three") && has(rt, KEPT, b"one") && has(rt, KEPT_NEXT, b"two"))
 }
 
 /// What doesn't go so where files are replaced that are to be kept.

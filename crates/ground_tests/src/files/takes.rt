@@ -53,17 +53,12 @@ fn is_answer(
     refusal == want && tells(rt, files, text)
 }
 
-/// Files that wait for no other run.
-fn impatient(rt: HostRuntime) -> DirFiles {
-    DirFiles::new(rt).with_manner(Manner {
+/// Whether a take of a file gives this answer, where no other run is waited for. The file is given back.
+fn answers(rt: HostRuntime, name: &str, how: Take, want: Answer) -> bool {
+    let mut files = DirFiles::new(rt).with_manner(Manner {
         seconds: 0,
         ..Manner::new()
-    })
-}
-
-/// Whether a take of a file gives this answer. The file is given back.
-fn answers(rt: HostRuntime, name: &str, how: Take, want: Answer) -> bool {
-    let mut files = impatient(rt);
+    });
     let refusal = match files.take(rt.alloc(), name, how) {
         Ok(disk) => {
             files.give(name, disk);
