@@ -37,7 +37,7 @@ const NESTED: [Word; 14] = [
 ];
 
 const NESTED_TEXT: &[u8] =
-    b"{\nkey(1) = \"b\"\ndata(35) = \"xxx\\00\\00\\00\\00\\08\\00\\00\\00\\01\\00\\00\\00\\01\\00\\00\\00\\BF\\0F\\D7\\8C\\99\\19\\01&c3BB \\00\\00\\00\"\n}\n{\nkey(1) = \"c\"\ndata(1) = \"3\"\n}\n{\nkey(1) = \"a\"\ndata(1) = \"1\"\n}\n";
+    b"{\nkey(1) = \"b\"\ndata(35) = \"xxx\\00\\00\\00\\00\\08\\00\\00\\00\\01\\00\\00\\00\\01\\00\\00\\00\\BF\\0F\\\x447\\8C\\99\\19\\01&c3BB \\00\\00\\00\"\n}\n{\nkey(1) = \"c\"\ndata(1) = \"3\"\n}\n{\nkey(1) = \"a\"\ndata(1) = \"1\"\n}\n";
 
 /// What is otherwise in the small file, how many pairs can be read of it, and their dump.
 type Damaged = (&'static [Word], u64, &'static [u8]);
