@@ -1136,6 +1136,12 @@ module _ (tells : Bool) (run : Run) (e t : Ending) (printed : PrintedFor e t) (p
     | inr part ↦ inl part.failed
   ]
 
+  output_told : (run.status ≡ 8 → ⊥) → run.output.faults_after ≡ run.output.faults_before
+  output_told other = elim prints [
+    | inl all ↦ all.sound
+    | inr part ↦ absurd (other part.exits)
+  ]
+
   malformed : run.status ≡ 7 → ask_reads run.ask ≡ true
   malformed is =
       let tells : of_input e ≡ true = seven_tells e (own_status 7 (λ x. absurd (omega (arith, x))) is) in
@@ -1164,6 +1170,7 @@ module _ (tells : Bool) (run : Run) (e t : Ending) (printed : PrintedFor e t) (p
     device_fault = fault_rose;
     device_fault_told = fault_told;
     output_fault = output_rose;
+    output_fault_told = output_told;
     malformed = malformed;
     input_fault_told = input_told;
     known = elim prints [

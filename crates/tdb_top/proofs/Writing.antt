@@ -217,6 +217,7 @@ module _ (ask : Option Ask) (held : List ℕ → Option History) (files tells : 
       → Writes (ask_tells ask files tells) (output_by tells before after start last) (TextBefore ask held) e status
   written (Ok found) e status printed began cause (inl all) = inl (record {
     exits = all.exits;
+    sound = all.sound ∙ cause.done;
     written = λ told.
         (let b = began told in
         (b.0, text_printed ask held b.0 e found printed b.1, all.written (heard ask files tells told) ∙ ap (λ x. x ++ text_of e) b.2));

@@ -230,9 +230,10 @@ MadeSo name (Making.TheVariants.TooLong len) e = e ≡ Refused (TooLong len)
 MadeSo name Making.TheVariants.Device e = e ≡ DeviceFault
 MadeSo name Making.TheVariants.Memory e = e ≡ NoMemory
 
--- the output took the whole line
+-- the output took the whole line, and no call of it failed
 pub record PrintsAll (o : Output) (e : Ending) (status : ℕ) : Type 0 where
   pub exits : status ≡ status_of e
+  pub sound : o.faults_after ≡ o.faults_before
   pub written : IsTrue o.tells → o.after ≡ o.before ++ text_of e
 
 -- the output failed: it took a part of the line, from the first byte on; where there is no line nothing is written

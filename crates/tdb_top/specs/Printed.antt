@@ -54,9 +54,10 @@ abbrev pub ask_tells : Option Ask → Bool → Bool → Bool
 ask_tells None files output = output
 ask_tells (Some ask) files output = task_tells ask.task files output
 
--- the output took the text and the line, whole
+-- the output took the text and the line, whole, and no call of it failed
 pub record WritesAll (told : Bool) (o : Output) (Text : Ending → List ℕ → Type 0) (e : Ending) (status : ℕ) : Type 0 where
   pub exits : status ≡ status_of e
+  pub sound : o.faults_after ≡ o.faults_before
   pub written : IsTrue told → (text : List ℕ) × Text e text × (o.after ≡ o.before ++ text ++ text_of e)
 
 -- a restore, a backup, a verification or a `quit` that was done, for which no line is written

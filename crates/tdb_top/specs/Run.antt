@@ -274,15 +274,16 @@ pub record LeavesFiles (run : Run) (logs later : List Logged) : Type 0 where
 
 -- What a status tells whatever the files and the output tell of what they hold: the usage is answered exactly where the
 -- words ask for nothing, unless memory was wanting or the output failed; and a failed call is told, unless the output
--- failed too. Commands of openers may end as a failed call ends them where another program wrote to their file
--- (`CountedIf`). Only a restore, turns and a session tell of the input, of which a failed read is told unless a call of
--- the files failed too.
+-- failed too. A failed call of the output is told in any case. Commands of openers may end as a failed call ends them
+-- where another program wrote to their file (`CountedIf`). Only a restore, turns and a session tell of the input, of
+-- which a failed read is told unless a call of the files failed too.
 pub record Accounted (run : Run) : Type 0 where
   pub usage : run.status ≡ 2 → run.ask ≡ None
   pub usage_exact : run.ask ≡ None → Contains (2 ∷ 5 ∷ 8 ∷ []) run.status
   pub device_fault : run.status ≡ 4 → asks_openers run.ask ≡ false → Rose run.faults_before run.faults_after
   pub device_fault_told : run.status ≢ 4 → run.status ≢ 8 → run.faults_after ≡ run.faults_before
   pub output_fault : run.status ≡ 8 → Rose run.output.faults_before run.output.faults_after ⊎ (IsTrue (ask_reads run.ask) × Rose run.input.faults_before run.input.faults_after)
+  pub output_fault_told : run.status ≢ 8 → run.output.faults_after ≡ run.output.faults_before
   pub malformed : run.status ≡ 7 → IsTrue (ask_reads run.ask)
   pub input_fault_told : run.status ≢ 4 → run.status ≢ 8 → run.input.faults_after ≡ run.input.faults_before
   pub known : Contains (0 ∷ 1 ∷ 2 ∷ 3 ∷ 4 ∷ 5 ∷ 6 ∷ 7 ∷ 8 ∷ 9 ∷ 10 ∷ []) run.status
