@@ -3,7 +3,7 @@
 use crate::tables::first_failure;
 use crate::{
     backup, changes, create, generate, inserts, limits, lines, logs, long, options, printing,
-    sessions, turns, undo, verify,
+    rescues, sessions, summaries, turns, undo, verify,
 };
 
 #[test]
@@ -18,7 +18,9 @@ fn lines_of_tables(rt: HostRuntime) {
         ("lines", lines::TABLES.as_slice()),
         ("options", options::TABLES.as_slice()),
         ("printing", printing::TABLES.as_slice()),
+        ("rescues", rescues::TABLES.as_slice()),
         ("sessions", sessions::TABLES.as_slice()),
+        ("summaries", summaries::TABLES.as_slice()),
         ("turns", turns::TABLES.as_slice()),
         ("undo", undo::TABLES.as_slice()),
         ("verify", verify::TABLES.as_slice()),
@@ -35,6 +37,7 @@ fn runs_beside_the_tables(rt: HostRuntime) {
         ("loads with logs", generate::failing_log(alloc)),
         ("checks", lines::failing_check(alloc)),
         ("logs", logs::failing_row(alloc)),
+        ("summaries", summaries::failing_growth(alloc)),
         ("calls that fail in a commit", turns::failing_call(alloc)),
     ] {
         assert_eq!(rt; failing, Ok(None), "{table}");

@@ -28,9 +28,13 @@ mod options;
 #[cfg(test)]
 mod printing;
 #[cfg(test)]
+mod rescues;
+#[cfg(test)]
 mod runs;
 #[cfg(test)]
 mod sessions;
+#[cfg(test)]
+mod summaries;
 #[cfg(test)]
 mod tables;
 #[cfg(test)]

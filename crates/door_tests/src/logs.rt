@@ -57,7 +57,7 @@ const KEPT: &str = "open\nsetlog\ndo 1 store a 1\n";
 const KEPT_TOLD: &str =
     "1 open\nlog 1\n1 step\n1 step\n1 step\n1 step\ngrew 696 4096\n1 step\n1 done ok\n";
 
-static ROWS: [(&'static str, Row); 17] = [
+static ROWS: [(&'static str, Row); 18] = [
     (
         "a store that grows the file",
         Row {
@@ -109,6 +109,17 @@ static ROWS: [(&'static str, Row); 17] = [
             line: ("dump f.tdb", "", Nothing, 3, "needs recovery\n"),
             logs: 1,
             failing: None,
+            left: 1,
+            told: &[],
+        },
+    ),
+    (
+        "a rescue, which tells nothing",
+        Row {
+            file: STRAY,
+            line: ("dump -e f.tdb", "", Nothing, 0, DUMP),
+            logs: 1,
+            failing: Some(0),
             left: 1,
             told: &[],
         },

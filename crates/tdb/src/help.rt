@@ -16,6 +16,7 @@ const PAGE: &str = "tdb: look into, change, check and copy files of Samba's triv
   tdb tool FILE COMMAND ..   one command on a file: create, show, store, insert, delete, erase, check ..
   tdb tool FILE              a session of many, a line each; `tdb tool --help` lists the commands
   tdb dump FILE              print all pairs; -k KEY prints the value of one key
+  tdb dump -e FILE           print what can still be read of a damaged file
   tdb restore FILE           make a file of the text that a dump printed, from standard input
   tdb backup FILE ..         copy files; -s SUFFIX names the copies, in the place of .bak
   tdb backup -v FILE ..      verify files, and put copies in the place of damaged ones
@@ -30,6 +31,7 @@ The manual: man tdb";
 const TOOL: &str = "tdb tool FILE COMMAND [WORDS]   one command on a file
 tdb tool FILE                   a session: the lines of standard input are commands
 tdb tool FILE create [SIZE [default|jenkins [little|big]]]   a new file
+tdb tool FILE info|list|free    what the file holds in numbers, its records, its free records
 ";
 
 /// What a person asks for.

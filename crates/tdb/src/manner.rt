@@ -10,7 +10,9 @@ const SHARED_VARIABLE: &str = "TDB_SHARED";
 const WAIT_VARIABLE: &str = "TDB_WAIT";
 
 /// The commands of `tool` that change nothing, but for undoing what an unfinished change left.
-const READING: [&str; 7] = ["show", "check", "first", "next", "dump", "keys", "hexkeys"];
+const READING: [&str; 10] = [
+    "show", "check", "first", "next", "dump", "keys", "hexkeys", "info", "list", "free",
+];
 
 /// The word with this number, counted from 0, is this one.
 fn is_word(words: &[String], number: usize, word: &str) -> bool {

@@ -6,7 +6,7 @@ use Rattle.tdb_cmdline.specs.declared.act.Verb.TheVariants.{Show, Insert, Store,
 use Rattle.tdb_cmdline.specs.declared.act.Spelling.{Spelling}
 use Rattle.tdb_cmdline.specs.declared.act.Spelling.TheVariants.{Letters, HexPairs}
 use Rattle.tdb_cmdline.specs.Words.{value_of, hex_value_of, of_one, of_two}
-use Rattle.tdb_dump.specs.declared.listing.Listing.{Listing}
+use Rattle.tdb_cmdline.specs.declared.printout.Printout.{Printout}
 
 -- `show` KEY
 abbrev pub show_of : List (List ℕ) → Option Verb
@@ -44,7 +44,7 @@ abbrev pub alone_of : Verb → List (List ℕ) → Option Verb
 alone_of verb [] = Some verb
 alone_of verb (word ∷ rest) = None
 
--- `dump`, `keys` and `hexkeys`, without arguments: how the pairs are listed
-abbrev pub print_of : Listing → List (List ℕ) → Option Listing
-print_of listing [] = Some listing
-print_of listing (word ∷ rest) = None
+-- `dump`, `keys`, `hexkeys`, `info`, `list` and `free`, without arguments: what is printed
+abbrev pub print_of : Printout → List (List ℕ) → Option Printout
+print_of printout [] = Some printout
+print_of printout (word ∷ rest) = None

@@ -2,8 +2,7 @@
 use Rattle.std.specs.Prelude.{ℕ, ◌+◌, ◌<◌, ◌≤◌, ◌^◌, Option, None, Some, List, [], ◌∷◌, length, codes, string_bytes}
 use Rattle.std.specs.Map.{lookup}
 use Rattle.std.specs.Option.{option_map, option_and_then}
-use Rattle.tdb_dump.specs.declared.listing.Listing.{Listing}
-use Rattle.tdb_dump.specs.declared.listing.Listing.TheVariants.{Pairs, Keys, HexKeys}
+use Rattle.tdb_dump.specs.declared.listing.Listing.TheVariants as Listing
 use Rattle.tdb_space.specs.Pairs.{same_key}
 use Rattle.tdb_open.specs.declared.limits.TheConstants.{LONGEST_FILE}
 use Rattle.tdb_cmdline.specs.declared.look.Look.{Look}
@@ -12,18 +11,20 @@ use Rattle.tdb_cmdline.specs.declared.act.Act.{Act}
 use Rattle.tdb_cmdline.specs.declared.act.Verb.{Verb}
 use Rattle.tdb_cmdline.specs.declared.act.Verb.TheVariants.{Show, Insert, Store, Delete, Erase, Check, First, Next, TransactionStart, TransactionCommit, TransactionCancel, Quit}
 use Rattle.tdb_cmdline.specs.declared.ask.Task.{Task}
-use Rattle.tdb_cmdline.specs.declared.ask.Task.TheVariants.{Create, On, Read, Print, Restore, Backup, Verify, Turns, Session, Generate}
+use Rattle.tdb_cmdline.specs.declared.ask.Task.TheVariants.{Create, On, Read, Rescue, Print, Restore, Backup, Verify, Turns, Session, Generate}
 use Rattle.tdb_cmdline.specs.declared.ask.Ask as C
 use Rattle.tdb_cmdline.specs.declared.options.Command.{Command}
 use Rattle.tdb_cmdline.specs.declared.options.Command.TheVariants as command
 use Rattle.tdb_cmdline.specs.declared.options.Line.{Line}
+use Rattle.tdb_cmdline.specs.declared.printout.Printout.{Printout}
+use Rattle.tdb_cmdline.specs.declared.printout.Printout.TheVariants.{Pairs, Summary, Chains, FreeList}
 use Rattle.tdb_cmdline.specs.Words.{of_one, of_three}
-use Rattle.tdb_cmdline.specs.Options.{commands, told, line_of, limit_in}
+use Rattle.tdb_cmdline.specs.Options.{commands, is_given, told, line_of, limit_in}
 use Rattle.tdb_cmdline.specs.Acts.{show_of, insert_of, store_of, storehex_of, delete_of, alone_of, print_of}
 use Rattle.tdb_cmdline.specs.Lines.Create.{create_of}
 use Rattle.tdb_cmdline.specs.CopyNames.{BackupFits, VerifyFits}
 use Rattle.tdb_cmdline.specs.Lines.Backup.{asks_of}
-use Rattle.tdb_cmdline.specs.Lines.Dump.{look_of}
+use Rattle.tdb_cmdline.specs.Lines.Dump.{task_of as dump_task}
 use Rattle.tdb_cmdline.specs.Lines.Turns.{options_in}
 use Rattle.tdb_cmdline.specs.Lines.Generate.{generate_of}
 
@@ -40,9 +41,9 @@ asked ask = record { file = string_bytes ask.file; task = ask.task }
 abbrev pub on_file : ℕ → Verb → Task
 on_file limit verb = On (record { verb = verb; limit = limit })
 
--- the pairs of such a file are printed so
-abbrev pub print_file : ℕ → Listing → Task
-print_file limit listing = Print listing limit
+-- this is printed of such a file
+abbrev pub print_file : ℕ → Printout → Task
+print_file limit printout = Print printout limit
 
 -- the commands of `tool`, each by its name with what its arguments ask for, where the file may have so many bytes
 abbrev pub tools : ℕ → List (List ℕ × (List (List ℕ) → Option Task))
@@ -60,9 +61,12 @@ tools limit =
     ∷ (codes "transaction_commit", λ arguments. option_map (on_file limit) (alone_of TransactionCommit arguments))
     ∷ (codes "transaction_cancel", λ arguments. option_map (on_file limit) (alone_of TransactionCancel arguments))
     ∷ (codes "quit", λ arguments. option_map (on_file limit) (alone_of Quit arguments))
-    ∷ (codes "dump", λ arguments. option_map (print_file limit) (print_of Pairs arguments))
-    ∷ (codes "keys", λ arguments. option_map (print_file limit) (print_of Keys arguments))
-    ∷ (codes "hexkeys", λ arguments. option_map (print_file limit) (print_of HexKeys arguments))
+    ∷ (codes "dump", λ arguments. option_map (print_file limit) (print_of (Pairs Listing.Pairs) arguments))
+    ∷ (codes "keys", λ arguments. option_map (print_file limit) (print_of (Pairs Listing.Keys) arguments))
+    ∷ (codes "hexkeys", λ arguments. option_map (print_file limit) (print_of (Pairs Listing.HexKeys) arguments))
+    ∷ (codes "info", λ arguments. option_map (print_file limit) (print_of Summary arguments))
+    ∷ (codes "list", λ arguments. option_map (print_file limit) (print_of Chains arguments))
+    ∷ (codes "free", λ arguments. option_map (print_file limit) (print_of FreeList arguments))
     ∷ (codes "create", λ arguments. option_map Create (create_of limit arguments))
     ∷ []
 
@@ -87,9 +91,10 @@ tool_asks_for (Some limit) (file ∷ words) = option_map (asks file) (tool_task 
 abbrev pub tool_asks : Line → Option Ask
 tool_asks line = tool_asks_for (limit_in line) line.positions
 
--- `dump [-k KEY] FILE`
+-- `dump [-e] [-k KEY] FILE`
 abbrev pub dump_asks : Line → Option Ask
-dump_asks line = of_one (λ file. option_map (λ look. asks file (Read look)) (look_of (told (codes "-k") line.options))) line.positions
+dump_asks line =
+    of_one (λ file. option_map (asks file) (dump_task (is_given (codes "-e") line.options) (told (codes "-k") line.options))) line.positions
 
 -- `restore [--limit N] FILE`
 abbrev pub restore_asks : Line → Option Ask
@@ -153,7 +158,8 @@ ActFits act = VerbFits act.verb × (act.limit ≤ LONGEST_FILE)
 abbrev pub TaskFits : List ℕ → Task → Type 0
 TaskFits file (On act) = ActFits act
 TaskFits file (Read look) = LookFits look
-TaskFits file (Print listing limit) = limit ≤ LONGEST_FILE
+TaskFits file Rescue = Unit {0}
+TaskFits file (Print printout limit) = limit ≤ LONGEST_FILE
 TaskFits file (Create new) = (0 < new.form.size) × (new.limit ≤ LONGEST_FILE)
 TaskFits file (Restore limit) = limit ≤ LONGEST_FILE
 TaskFits file (Backup more suffix) = BackupFits suffix (file ∷ more)

@@ -27,7 +27,7 @@ commands =
 -- the options of each command by their names: those that take a value, and flags, which take none
 abbrev pub options_of : Command → List (List ℕ × Kind)
 options_of Tool = (codes "--limit", Valued) ∷ []
-options_of Dump = (codes "-k", Valued) ∷ []
+options_of Dump = (codes "-k", Valued) ∷ (codes "-e", Flag) ∷ []
 options_of Restore = (codes "--limit", Valued) ∷ []
 options_of Backup = (codes "-s", Valued) ∷ (codes "-v", Flag) ∷ []
 options_of Turns =

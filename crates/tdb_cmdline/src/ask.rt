@@ -7,12 +7,12 @@ ghost use Rattle.tdb_cmdline.specs.Ask.{asked, asks, on_file, print_file, tool_t
 
 use crate::act::{Act, Verb};
 use crate::lines::create::NewFile;
-use crate::lines::dump::look_of;
 use crate::lines::turns::options_in;
-use crate::lines::{backup, generate};
+use crate::lines::{backup, dump, generate};
 use crate::look::Look;
 use crate::names::{Names, Text};
 use crate::options::{Command, Line};
+use crate::printout::Printout;
 use std::alloc::{AllocError, Global};
 use tdb_dump::Listing;
 use tdb_openers::Options;
@@ -29,8 +29,11 @@ pub enum Task {
     /// A command that reads a file alone.
     Read(Look),
 
-    /// To print its pairs so, where it is there and may have `limit` bytes.
-    Print { listing: Listing, limit: u64 },
+    /// To print what can still be read of it, where it may be damaged.
+    Rescue,
+
+    /// To print this of it, where it is there and may have `limit` bytes.
+    Print { printout: Printout, limit: u64 },
 
     /// To make it, of the pairs on the input. It may be up to `limit` bytes long.
     Restore { limit: u64 },
@@ -76,14 +79,14 @@ impl Task {
         }
     }
 
-    /// To print the pairs of a file that is there and may have so many bytes, where the command has no arguments.
-    fn print(limit: u64, listing: Listing, arguments: &[Text]) -> Option<Task>
+    /// To print this of a file that is there and may have so many bytes, where the command has no arguments.
+    fn print(limit: u64, printout: Printout, arguments: &[Text]) -> Option<Task>
         requires limit { limit ≤ 4294963200 }
-        ensures read { result ≡ option_map (print_file limit) (print_of listing arguments.now) }
+        ensures read { result ≡ option_map (print_file limit) (print_of printout arguments.now) }
         ensures fits { IfSome result (λ task. (file : List ℕ) → TaskFits file task) }
     {
         match arguments {
-            [] => Some(Task::Print { listing, limit }),
+            [] => Some(Task::Print { printout, limit }),
             _ => None,
         }
     }
@@ -122,9 +125,12 @@ impl Task {
                 Ok(Task::on(limit, verb))
             }
             "quit" => Ok(Task::on(limit, Verb::without_arguments(Verb::Quit, arguments))),
-            "dump" => Ok(Task::print(limit, Listing::Pairs, arguments)),
-            "keys" => Ok(Task::print(limit, Listing::Keys, arguments)),
-            "hexkeys" => Ok(Task::print(limit, Listing::HexKeys, arguments)),
+            "dump" => Ok(Task::print(limit, Printout::Pairs(Listing::Pairs), arguments)),
+            "keys" => Ok(Task::print(limit, Printout::Pairs(Listing::Keys), arguments)),
+            "hexkeys" => Ok(Task::print(limit, Printout::Pairs(Listing::HexKeys), arguments)),
+            "info" => Ok(Task::print(limit, Printout::Summary, arguments)),
+            "list" => Ok(Task::print(limit, Printout::Chains, arguments)),
+            "free" => Ok(Task::print(limit, Printout::FreeList, arguments)),
             "create" => match NewFile::of(limit, arguments) {
                 Some(new) => Ok(Some(Task::Create(new))),
                 None => Ok(None),
@@ -173,11 +179,10 @@ impl Ask {
         let [file] = line.positions.as_slice() else {
             return Ok(None);
         };
-        let Some(look) = look_of(alloc, line.value_of("-k"))? else {
+        let Some(task) = dump::task_of(alloc, line.has("-e"), line.value_of("-k"))? else {
             return Ok(None);
         };
         let file = String::from_str(alloc, file.as_str())?;
-        let task = Task::Read(look);
         Ok(Some(Ask { file, task }))
     }
 

@@ -9,6 +9,7 @@ mod lines;
 mod look;
 mod names;
 mod options;
+mod printout;
 mod words;
 
 pub use act::{Act, Verb};
@@ -18,3 +19,4 @@ pub use limits::{DEFAULT_SIZE, LONGEST_NUMBER, LONGEST_WORD, MOST_CHAINS, limits
 pub use lines::create::NewFile;
 pub use look::Look;
 pub use names::{Names, Text};
+pub use printout::Printout;

@@ -97,6 +97,7 @@ impl Command {
             },
             Command::Dump => match name {
                 "-k" => Some(Kind::Valued),
+                "-e" => Some(Kind::Flag),
                 _ => None,
             },
             Command::Backup => match name {
@@ -163,7 +164,9 @@ impl Command {
             Command::Tool | Command::Restore => {
                 bare.arg(Arg::new(alloc, "--limit").long("limit"))
             }
-            Command::Dump => bare.arg(Arg::new(alloc, "-k").short('k')),
+            Command::Dump => bare
+                .arg(Arg::new(alloc, "-k").short('k'))?
+                .arg(flag(alloc, "-e").short('e')),
             Command::Backup => bare
                 .arg(Arg::new(alloc, "-s").short('s'))?
                 .arg(flag(alloc, "-v").short('v')),

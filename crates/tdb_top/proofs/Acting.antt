@@ -12,7 +12,7 @@ use Rattle.tdb_cmdline.specs.declared.act.Verb.TheVariants.{Show, Insert, Store,
 use Rattle.tdb_steps.specs.Wiped.{at_end}
 use Rattle.tdb_open.specs.declared.halt.Refusal.TheVariants.{TooLong}
 use Rattle.tdb_cmdline.specs.declared.ask.Task.{Task}
-use Rattle.tdb_cmdline.specs.declared.ask.Task.TheVariants.{Create, On, Read, Print, Restore, Backup, Verify, Turns, Session, Generate}
+use Rattle.tdb_cmdline.specs.declared.ask.Task.TheVariants.{Create, On, Read, Rescue, Print, Restore, Backup, Verify, Turns, Session, Generate}
 use Rattle.tdb_cmdline.specs.declared.lines.create.NewFile.{NewFile}
 use Rattle.tdb_top.specs.declared.commands.create.Creation as Making
 use Rattle.tdb_top.specs.declared.ending.Ending.{Ending}
@@ -170,7 +170,8 @@ stays_same (Some h) = (h, refl)
 task_wants : (input : Input) (task : Task) (file : List ℕ) (held : List ℕ → Option History) → TaskLeaves input task file held E.NoMemory held
 task_wants input (On act) file held = on_wants act (held file)
 task_wants input (Read look) file held = refl
-task_wants input (Print listing limit) file held = print_wants limit (held file)
+task_wants input Rescue file held = refl
+task_wants input (Print printout limit) file held = print_wants limit (held file)
 task_wants input (Create form) file held = refl
 task_wants input (Restore limit) file held = record { left = inl refl; done = λ is. absurd (omega (arith, is)); there = λ some. refl }
 task_wants input (Backup more suffix) file held = record {

@@ -12,7 +12,7 @@ use Rattle.tdb_log.specs.declared.notice.Notice.TheVariants.{Grew}
 use Rattle.tdb_cmdline.specs.Ask.{Ask}
 use Rattle.tdb_cmdline.specs.CopyNames.{copy_name, IsNameAmong}
 use Rattle.tdb_cmdline.specs.declared.ask.Task.{Task}
-use Rattle.tdb_cmdline.specs.declared.ask.Task.TheVariants.{Create, On, Read, Print, Restore, Backup, Verify, Turns, Session, Generate}
+use Rattle.tdb_cmdline.specs.declared.ask.Task.TheVariants.{Create, On, Read, Rescue, Print, Restore, Backup, Verify, Turns, Session, Generate}
 use Rattle.tdb_open.specs.declared.halt.Fault.{Fault}
 use Rattle.tdb_open.specs.declared.halt.Fault.TheVariants as F
 use Rattle.tdb_open.specs.declared.halt.Halt.{Halt}
@@ -197,7 +197,8 @@ task_unheard (Read look) name held logs = of (held name)
     of : (o : Option History) → LookHeard o E.NoMemory logs logs
     of None = (refl, λ is. cc)
     of (Some h) = heard_nothing (inr refl) refl
-task_unheard (Print listing limit) name held logs = of (held name)
+task_unheard Rescue name held logs = (refl, λ is. cc)
+task_unheard (Print printout limit) name held logs = of (held name)
   where
     of : (o : Option History) → PrintHeard limit o E.NoMemory logs logs
     of None = (refl, λ is. cc)

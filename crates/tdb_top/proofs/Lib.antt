@@ -8,6 +8,7 @@ pub mod Unlogged
 pub mod Restoring
 pub mod Looking
 pub mod Printing
+pub mod Rescuing
 pub mod BackingUp
 pub mod Writing
 pub mod OneAnswer

@@ -1,6 +1,7 @@
 -- What is due is one thing.
 use Rattle.std.proofs.Common.{◌≡◌, ◌⊎◌, ℕ, ◌≤◌, false, List, Option, None, Some, length, refl, sym, ◌∙◌, ap, inl, inr, arith}
 use Rattle.tdb_words.specs.declared.what.What.TheVariants.{Header as BadHeader}
+use Rattle.tdb_words.specs.Header.{HeaderOk}
 use Rattle.tdb_disk.specs.History.{History, seen}
 use Rattle.std.proofs.lemmas.Bool.{false≢true}
 use Rattle.tdb_space.specs.Form.{form_of}
@@ -10,14 +11,15 @@ use Rattle.tdb_space.proofs.OpeningFault.OneFault.{one_opening, never_both_ways}
 use Rattle.tdb_cmdline.specs.declared.act.Act.{Act}
 use Rattle.tdb_cmdline.specs.declared.look.Look.{Look}
 use Rattle.tdb_cmdline.specs.declared.ask.Task.{Task}
-use Rattle.tdb_cmdline.specs.declared.ask.Task.TheVariants.{Create, On, Read, Print, Restore, Backup, Verify, Turns, Session, Generate}
+use Rattle.tdb_cmdline.specs.declared.ask.Task.TheVariants.{Create, On, Read, Rescue, Print, Restore, Backup, Verify, Turns, Session, Generate}
 use Rattle.tdb_top.specs.declared.ending.Ending.{Ending}
 use Rattle.tdb_top.specs.declared.ending.Ending.TheVariants.{Refused}
 use Rattle.tdb_open.specs.declared.halt.Refusal.{Refusal}
 use Rattle.tdb_open.specs.declared.halt.Refusal.TheVariants.{TooLong, Header, Corrupt, NeedsRecovery}
 use Rattle.tdb_open.specs.declared.limits.TheConstants.{LONGEST_FILE}
 use Rattle.tdb_cmdline.specs.Ask.{Ask}
-use Rattle.tdb_top.specs.Ending.{status_of, Replies, Refuses, LookReplies, RefusesToRead, PrintsPairs, MakingDue, TaskDue, Due}
+use Rattle.tdb_top.specs.Ending.{status_of, Replies, Refuses, LookReplies, RefusesToRead, PrintsOpened, MakingDue, TaskDue, Due}
+use Rattle.tdb_top.specs.Commands.Rescue.{CanRescue, IsUnreadable, RescueDue}
 use Rattle.tdb_cmdline.specs.declared.lines.create.NewFile.{NewFile}
 use Rattle.tdb_open.specs.Opening.{CanOpen, IsRefused, OpensToRead, CanRead, HasOpenGate, IsRefusedToRead, IsRefusedBelow}
 
@@ -126,19 +128,60 @@ making_one form x y (inl p) (inr q) = absurd (omega (arith, p.0, q.0))
 making_one form x y (inr p) (inl q) = absurd (omega (arith, p.0, q.0))
 making_one form x y (inr p) (inr q) = p.1 ∙ sym q.1
 
-print_one : (limit : ℕ) (img : List ℕ) (x y : Ending) → PrintsPairs limit img x ⊎ Refuses limit img x → PrintsPairs limit img y ⊎ Refuses limit img y → x ≡ y
+print_one : (limit : ℕ) (img : List ℕ) (x y : Ending) → PrintsOpened limit img x ⊎ Refuses limit img x → PrintsOpened limit img y ⊎ Refuses limit img y → x ≡ y
 print_one limit img x y (inl p) (inl q) = p.printed ∙ sym q.printed
 print_one limit img x y (inl p) (inr q) = absurd (below_opened limit img q.refusal p.within p.can_open q.right)
 print_one limit img x y (inr p) (inl q) = absurd (below_opened limit img p.refusal q.within q.can_open p.right)
 print_one limit img x y (inr p) (inr q) = p.refused ∙ ap Refused (below_one limit img p.refusal q.refusal p.right q.right) ∙ sym q.refused
+
+-- a file of which nothing can be read is refused in one way
+unreadable_one : (img : List ℕ) (r s : Refusal) → IsUnreadable img r → IsUnreadable img s → r ≡ s
+unreadable_one img (TooLong a) (TooLong b) p q = ap TooLong (p.0 ∙ sym q.0)
+unreadable_one img (TooLong a) (Header f) p q = absurd (omega (arith, p.0, p.1, q.0))
+unreadable_one img (TooLong a) (Corrupt w at) p q = absurd (omega (arith, p.0, p.1, q.0))
+unreadable_one img (Header f) (TooLong b) p q = absurd (omega (arith, q.0, q.1, p.0))
+unreadable_one img (Header f) (Header g) p q = let both : Some f ≡ Some g = sym p.2 ∙ q.2 in cc
+unreadable_one img (Header f) (Corrupt w at) p q = absurd (omega (arith, p.1, q.2, q.3))
+unreadable_one img (Corrupt v a) (TooLong b) p q = absurd (omega (arith, q.0, q.1, p.0))
+unreadable_one img (Corrupt v a) (Header g) p q = absurd (omega (arith, q.1, p.2, p.3))
+unreadable_one img (Corrupt v a) (Corrupt w b) p q = λ j. Corrupt ((p.1 ∙ sym q.1) j) ((p.2 ∙ sym q.2) j)
+unreadable_one img (TooLong a) NeedsRecovery p q = absurd q
+unreadable_one img (Header f) NeedsRecovery p q = absurd q
+unreadable_one img (Corrupt w at) NeedsRecovery p q = absurd q
+unreadable_one img NeedsRecovery s p q = absurd p
+
+-- one that is refused with status 3 has no header without a fault
+pub unreadable_faulty : (img : List ℕ) (r : Refusal) → IsUnreadable img r → status_of (Refused r) ≡ 3 → HeaderOk img → ⊥
+unreadable_faulty img (TooLong len) p three ok = absurd (omega (arith, three))
+unreadable_faulty img (Header f) p three ok = let both : None ≡ Some f = sym ok.no_fault ∙ p.2 in cc
+unreadable_faulty img (Corrupt w at) p three ok = absurd (omega (arith, p.2, p.3, ok.long_enough))
+unreadable_faulty img NeedsRecovery p three ok = p
+
+-- and one that is no longer than the longest is refused so
+pub unreadable_three : (img : List ℕ) (r : Refusal) → IsUnreadable img r → length img ≤ LONGEST_FILE → status_of (Refused r) ≡ 3
+unreadable_three img (TooLong len) p short = absurd (omega (arith, p.0, p.1, short))
+unreadable_three img (Header f) p short = refl
+unreadable_three img (Corrupt w at) p short = refl
+unreadable_three img NeedsRecovery p short = refl
+
+not_both_rescued : (img : List ℕ) (r : Refusal) → CanRescue img → IsUnreadable img r → ⊥
+not_both_rescued img r can p = unreadable_faulty img r p (unreadable_three img r p can.within) can.header
+
+rescue_one : (img : List ℕ) (x y : Ending) → RescueDue img x → RescueDue img y → x ≡ y
+rescue_one img x y (inl p) (inl q) = p.1 ∙ sym q.1
+rescue_one img x y (inl p) (inr q) = absurd (not_both_rescued img q.0 p.0 q.1)
+rescue_one img x y (inr p) (inl q) = absurd (not_both_rescued img p.0 q.0 p.1)
+rescue_one img x y (inr p) (inr q) = p.2 ∙ ap Refused (unreadable_one img p.0 q.0 p.1 q.1) ∙ sym q.2
 
 task_one : (task : Task) (name : List ℕ) (held : Option History) (x y : Ending) → TaskDue task name held x → TaskDue task name held y → x ≡ y
 task_one (On act) name None x y p q = p ∙ sym q
 task_one (On act) name (Some h) x y p q = act_one act (seen h) x y p q
 task_one (Read look) name None x y p q = p ∙ sym q
 task_one (Read look) name (Some h) x y p q = look_one look (seen h) x y p q
-task_one (Print listing limit) name None x y p q = p ∙ sym q
-task_one (Print listing limit) name (Some h) x y p q = print_one limit (seen h) x y p q
+task_one Rescue name None x y p q = p ∙ sym q
+task_one Rescue name (Some h) x y p q = rescue_one (seen h) x y p q
+task_one (Print printout limit) name None x y p q = p ∙ sym q
+task_one (Print printout limit) name (Some h) x y p q = print_one limit (seen h) x y p q
 task_one (Create form) name None x y p q = making_one form x y p q
 task_one (Create form) name (Some h) x y p q = p ∙ sym q
 task_one (Restore limit) name None x y p q = absurd p

@@ -3,14 +3,13 @@ use Rattle.std.proofs.Common.{◌≡◌, ◌≤◌, ℕ, length, List, [], Optio
 use Rattle.tdb_disk.specs.History.{History, seen}
 use Rattle.tdb_disk.specs.declared.files.TakeRefusal.{TakeRefusal}
 use Rattle.tdb_disk.specs.declared.files.TakeRefusal.TheVariants as Take
-use Rattle.tdb_dump.specs.declared.listing.Listing.{Listing}
+use Rattle.tdb_cmdline.specs.declared.printout.Printout.{Printout}
 use Rattle.tdb_cmdline.specs.declared.ask.Task.TheVariants.{Print}
 use Rattle.tdb_top.specs.declared.ending.Ending.{Ending}
 use Rattle.tdb_top.specs.declared.ending.Ending.TheVariants as E
 use Rattle.tdb_open.specs.declared.halt.Halt.{Halt}
 use Rattle.tdb_open.specs.declared.halt.Halt.TheVariants as H
-use Rattle.tdb_top.specs.Commands.Dump.{pairs_text}
-use Rattle.tdb_top.specs.Commands.Print.{PrintEnds, PrintLeft, PrintLeaves, PrintText}
+use Rattle.tdb_top.specs.Commands.Print.{PrintEnds, PrintLeft, PrintLeaves, PrintText, printout_text}
 use Rattle.tdb_top.specs.Ending.{TaskDue, TaskCause, task_due, task_failed, task_wanting, task_unlogged, CountedBy, Untaken, of_halt}
 use Rattle.tdb_top.specs.Looks.{StandsBefore}
 use Rattle.tdb_open.specs.Opening.{opened_bytes, CanOpen, HaltsBelow, LeavesBelow, UndoneIfOpen}
@@ -45,11 +44,11 @@ opened_print limit old now E.InputFault within can undone ends = absurd ends
 opened_print limit old now (E.Malformed at) within can undone ends = absurd ends
 
 -- how it ended is why its task ends so
-module _ (listing : Listing) (limit : ℕ) (name : List ℕ) (held : Option History) (h : History) (there : held ≡ Some h) (before after : ℕ) where
-  due_there : (e : Ending) → TaskDue (Print listing limit) name (Some h) e → TaskCause (Print listing limit) name held before after e
-  due_there e due = task_due e (subst (λ o. TaskDue (Print listing limit) name o e) (sym there) due)
+module _ (printout : Printout) (limit : ℕ) (name : List ℕ) (held : Option History) (h : History) (there : held ≡ Some h) (before after : ℕ) where
+  due_there : (e : Ending) → TaskDue (Print printout limit) name (Some h) e → TaskCause (Print printout limit) name held before after e
+  due_there e due = task_due e (subst (λ o. TaskDue (Print printout limit) name o e) (sym there) due)
 
-  pub print_cause : (now : History) (e : Ending) → PrintLeft limit h e now → CountedBy before after e → TaskCause (Print listing limit) name held before after e
+  pub print_cause : (now : History) (e : Ending) → PrintLeft limit h e now → CountedBy before after e → TaskCause (Print printout limit) name held before after e
   print_cause now (E.Replied reply) left counted = due_there (E.Replied reply) (inl (record { within = left.0; can_open = left.1; printed = ap E.Replied left.2 }))
   print_cause now (E.Refused refusal) left counted = due_there (E.Refused refusal) (inr (record { refusal = refusal; right = left.0; refused = refl }))
   print_cause now E.DeviceFault left counted = task_failed (counted.failed refl)
@@ -80,6 +79,6 @@ untaken_print limit name held given Take.There e same gone free is = absurd (fre
 untaken_print limit name held given Take.Failed e same gone free is = subst (λ x. PrintLeaves limit held x given) (sym is) (print_same limit held given E.DeviceFault same (λ h. inl (inr refl)))
 untaken_print limit name held given Take.Memory e same gone free is = subst (λ x. PrintLeaves limit held x given) (sym is) (print_same limit held given E.NoMemory same (λ h. inr refl))
 
-pub untaken_print_text : (listing : Listing) (held : Option History) (name : List ℕ) (refusal : TakeRefusal) (e : Ending) → Untaken name refusal e → PrintText listing held e []
-untaken_print_text listing None name refusal e is = refl
-untaken_print_text listing (Some h) name refusal e is = untaken_stands (pairs_text listing (opened_bytes (seen h))) name refusal e is
+pub untaken_print_text : (printout : Printout) (held : Option History) (name : List ℕ) (refusal : TakeRefusal) (e : Ending) → Untaken name refusal e → PrintText printout held e []
+untaken_print_text printout None name refusal e is = refl
+untaken_print_text printout (Some h) name refusal e is = untaken_stands (printout_text printout (opened_bytes (seen h))) name refusal e is

@@ -5,11 +5,12 @@ use Rattle.std.proofs.lemmas.Bool.{false≢true}
 use Rattle.std.proofs.lemmas.List.{append-nil}
 use Rattle.tdb_disk.specs.Count.{Rose}
 use Rattle.tdb_disk.specs.History.{History, seen}
+use Rattle.tdb_words.specs.Header.{HeaderOk}
 use Rattle.tdb_space.specs.Opening.{Opens}
 use Rattle.tdb_cmdline.specs.declared.act.Act.{Act}
 use Rattle.tdb_cmdline.specs.declared.look.Look.{Look}
 use Rattle.tdb_cmdline.specs.declared.ask.Task.{Task}
-use Rattle.tdb_cmdline.specs.declared.ask.Task.TheVariants.{Create, On, Read, Print, Restore, Backup, Verify, Turns, Session, Generate}
+use Rattle.tdb_cmdline.specs.declared.ask.Task.TheVariants.{Create, On, Read, Rescue, Print, Restore, Backup, Verify, Turns, Session, Generate}
 use Rattle.tdb_cmdline.specs.declared.lines.create.NewFile.{NewFile}
 use Rattle.tdb_top.specs.declared.ending.Ending.{Ending}
 use Rattle.tdb_top.specs.declared.ending.Ending.TheVariants.{Replied, Refused, Missing, There, Usage, DeviceFault, InputFault, Malformed, NoMemory, LogFault}
@@ -20,11 +21,12 @@ use Rattle.tdb_open.specs.declared.halt.Refusal.TheVariants.{TooLong, Header, Co
 use Rattle.tdb_open.specs.declared.limits.TheConstants.{LONGEST_FILE}
 use Rattle.tdb_cmdline.specs.Ask.{Ask}
 use Rattle.tdb_top.specs.Acts.{reply_of, Left}
-use Rattle.tdb_top.specs.Ending.{status_of, text_of, TakesMemory, PrintedFor, Replies, Refuses, LookReplies, RefusesToRead, PrintsPairs, TaskDue, Due, TaskCause, task_due, task_failed, task_wanting, task_unlogged, CountedBy, CountedFor, CountedAsked, has_openers, asks_openers}
+use Rattle.tdb_top.specs.Ending.{status_of, text_of, TakesMemory, PrintedFor, Replies, Refuses, LookReplies, RefusesToRead, PrintsOpened, TaskDue, Due, TaskCause, task_due, task_failed, task_wanting, task_unlogged, CountedBy, CountedFor, CountedAsked, has_openers, asks_openers}
 use Rattle.tdb_top.specs.Looks.{look_reply}
 use Rattle.tdb_top.specs.Printed.{TextBefore, ask_tells, IsSilent, Writes}
 use Rattle.tdb_top.specs.Left.{ActLeaves, OnLeaves, MakingLeaves, RestoreLeaves, TaskLeaves, MayChange, SameElse, Leaving}
 use Rattle.tdb_top.specs.Commands.Print.{PrintLeft, PrintLeaves}
+use Rattle.tdb_top.specs.Commands.Rescue.{RescueDue}
 use Rattle.tdb_top.specs.Commands.Restore.{of_input, HeardBy}
 use Rattle.tdb_top.specs.Commands.Backup.{BackupLeaves, EndsBackup}
 use Rattle.tdb_top.specs.Commands.Verify.{VerifyLeaves, EndsVerify}
@@ -34,18 +36,18 @@ use Rattle.tdb_top.specs.Reads.{reads_input, ask_reads, AskEnds}
 use Rattle.tdb_top.specs.Commands.Session.{session_options, StaysThere}
 use Rattle.tdb_open.specs.Loading.{TurnOpened}
 use Rattle.tdb_top.specs.Commands.Turns.{IsPlayed, TurnsLeft, TurnsLeave}
-use Rattle.tdb_dump.specs.declared.listing.Listing.{Listing}
+use Rattle.tdb_cmdline.specs.declared.printout.Printout.{Printout}
 use Rattle.tdb_log.specs.Logs.{Logged}
 use Rattle.tdb_commands.specs.declared.options.Options.{Options}
 use Rattle.tdb_gen.specs.declared.summary.Summary.{Summary}
 use Rattle.tdb_gen.specs.Summary.{summary_text}
 use Rattle.tdb_top.specs.Commands.Generate.{HasMade, GenLeaves}
 use Rattle.tdb_open.specs.Opening.{opened_bytes, OpensToRead, HeldOrUndone, SameOrUndone, UndoneIfOpen, OpenedBelow}
-use Rattle.tdb_top.specs.Run.{Run, MayEnd, is_due, is_read, is_copied, is_verified, is_played, is_served, is_generated, call_failed, memory_wanting, log_failed, TellsFault, ActsOn, LooksInto, PrintsOf, RefusesExactly, KeepsAll, EndsMidway, ActRun, PrintRun, MakingRun, RestoringRun, BackupRun, VerifyRun, TurnsRun, SessionRun, GeneratingRun, IsCopyName, LeavesFiles, Accounted}
+use Rattle.tdb_top.specs.Run.{Run, MayEnd, is_due, is_read, is_copied, is_verified, is_played, is_served, is_generated, call_failed, memory_wanting, log_failed, TellsFault, ActsOn, LooksInto, Rescues, PrintsOf, RefusesExactly, KeepsAll, EndsMidway, ActRun, PrintRun, MakingRun, RestoringRun, BackupRun, VerifyRun, TurnsRun, SessionRun, GeneratingRun, IsCopyName, LeavesFiles, Accounted}
 use Rattle.tdb_top.proofs.Held.{same_or_other}
 use Rattle.tdb_top.proofs.Copies.{stopped_kept, stopped_weaker, backup_zero}
 use Rattle.tdb_top.proofs.Verifying.{verified_zero, all_left_weaker, verify_kept}
-use Rattle.tdb_top.proofs.OneAnswer.{due_one, below_faulty, below_three, read_faulty, read_three}
+use Rattle.tdb_top.proofs.OneAnswer.{due_one, below_faulty, below_three, read_faulty, read_three, unreadable_faulty, unreadable_three}
 use Rattle.tdb_open.proofs.Openings.{same_or_undone}
 
 -- the statuses of the table
@@ -235,7 +237,8 @@ task_copies (Backup more suffix) = true
 task_copies (Verify more suffix) = false
 task_copies (On act) = false
 task_copies (Read look) = false
-task_copies (Print listing limit) = false
+task_copies Rescue = false
+task_copies (Print printout limit) = false
 task_copies (Create form) = false
 task_copies (Restore limit) = false
 
@@ -252,7 +255,8 @@ is_other (Generate commands seed) = true
 is_other (Backup more suffix) = false
 is_other (On act) = false
 is_other (Read look) = false
-is_other (Print listing limit) = false
+is_other Rescue = false
+is_other (Print printout limit) = false
 is_other (Create form) = false
 is_other (Restore limit) = false
 
@@ -309,8 +313,11 @@ module _ (run : Run) (e : Ending) (cause : MayEnd run.ask run.old run.input run.
   look_status : (P : ℕ → Type 0) (look : Look) (name : List ℕ) (h : History) → LooksInto run look name h → (LookReplies look (seen h) e ⊎ RefusesToRead (seen h) e → P (status_of e)) → P run.status ⊎ TellsFault run.status
   look_status P look name h into due = status_due P (Read look) name into.asks refl refl refl (λ d. due (subst (λ o. TaskDue (Read look) name o e) into.there d))
 
-  print_status : (P : ℕ → Type 0) (listing : Listing) (limit : ℕ) (name : List ℕ) (h : History) → PrintsOf run listing limit name h → (PrintsPairs limit (seen h) e ⊎ Refuses limit (seen h) e → P (status_of e)) → P run.status ⊎ TellsFault run.status
-  print_status P listing limit name h of due = status_due P (Print listing limit) name of.asks refl refl refl (λ d. due (subst (λ o. TaskDue (Print listing limit) name o e) of.there d))
+  rescue_status : (P : ℕ → Type 0) (name : List ℕ) (h : History) → Rescues run name h → (RescueDue (seen h) e → P (status_of e)) → P run.status ⊎ TellsFault run.status
+  rescue_status P name h of due = status_due P Rescue name of.asks refl refl refl (λ d. due (subst (λ o. TaskDue Rescue name o e) of.there d))
+
+  print_status : (P : ℕ → Type 0) (printout : Printout) (limit : ℕ) (name : List ℕ) (h : History) → PrintsOf run printout limit name h → (PrintsOpened limit (seen h) e ⊎ Refuses limit (seen h) e → P (status_of e)) → P run.status ⊎ TellsFault run.status
+  print_status P printout limit name h of due = status_due P (Print printout limit) name of.asks refl refl refl (λ d. due (subst (λ o. TaskDue (Print printout limit) name o e) of.there d))
 
   -- over bytes that can be opened the status isn't 3, and over others, no more than the most, it is
   not_three : (act : Act) (h : History) → Opens (seen h) → Replies act (seen h) e ⊎ Refuses act.limit (seen h) e → status_of e ≡ 3 → ⊥
@@ -321,11 +328,11 @@ module _ (run : Run) (e : Ending) (cause : MayEnd run.ask run.old run.input run.
   three_due act h faulty short within (inl p) = absurd (faulty p.can_open.opens)
   three_due act h faulty short within (inr p) = ap status_of p.refused ∙ below_three act.limit (seen h) p.refusal p.right short within
 
-  print_not_three : (limit : ℕ) (h : History) → Opens (seen h) → PrintsPairs limit (seen h) e ⊎ Refuses limit (seen h) e → status_of e ≡ 3 → ⊥
+  print_not_three : (limit : ℕ) (h : History) → Opens (seen h) → PrintsOpened limit (seen h) e ⊎ Refuses limit (seen h) e → status_of e ≡ 3 → ⊥
   print_not_three limit h opens (inl p) is = let zero : status_of e ≡ 0 = ap status_of p.printed in absurd (omega (arith, zero, is))
   print_not_three limit h opens (inr p) is = below_faulty limit (seen h) p.refusal p.right (sym (ap status_of p.refused) ∙ is) opens
 
-  print_three_due : (limit : ℕ) (h : History) → (Opens (seen h) → ⊥) → length (seen h) ≤ LONGEST_FILE → length (seen h) ≤ limit → PrintsPairs limit (seen h) e ⊎ Refuses limit (seen h) e → status_of e ≡ 3
+  print_three_due : (limit : ℕ) (h : History) → (Opens (seen h) → ⊥) → length (seen h) ≤ LONGEST_FILE → length (seen h) ≤ limit → PrintsOpened limit (seen h) e ⊎ Refuses limit (seen h) e → status_of e ≡ 3
   print_three_due limit h faulty short within (inl p) = absurd (faulty p.can_open.opens)
   print_three_due limit h faulty short within (inr p) = ap status_of p.refused ∙ below_three limit (seen h) p.refusal p.right short within
 
@@ -337,6 +344,15 @@ module _ (run : Run) (e : Ending) (cause : MayEnd run.ask run.old run.input run.
   read_three_due : (look : Look) (h : History) → (OpensToRead (seen h) → ⊥) → length (seen h) ≤ LONGEST_FILE → LookReplies look (seen h) e ⊎ RefusesToRead (seen h) e → status_of e ≡ 3
   read_three_due look h faulty short (inl p) = absurd (faulty (record { opens = p.can_read.can_open.opens; shut = p.can_read.shut }))
   read_three_due look h faulty short (inr p) = ap status_of p.refused ∙ read_three (seen h) p.refusal p.right short
+
+  -- and of a rescue
+  rescue_not_three : (h : History) → HeaderOk (seen h) → RescueDue (seen h) e → status_of e ≡ 3 → ⊥
+  rescue_not_three h ok (inl p) is = let zero : status_of e ≡ 0 = ap status_of p.1 in absurd (omega (arith, zero, is))
+  rescue_not_three h ok (inr p) is = unreadable_faulty (seen h) p.0 p.1 (sym (ap status_of p.2) ∙ is) ok
+
+  rescue_three_due : (h : History) → (HeaderOk (seen h) → ⊥) → length (seen h) ≤ LONGEST_FILE → RescueDue (seen h) e → status_of e ≡ 3
+  rescue_three_due h faulty short (inl p) = absurd (faulty p.0.header)
+  rescue_three_due h faulty short (inr p) = ap status_of p.2 ∙ unreadable_three (seen h) p.0 p.1 short
 
   no_three : TellsFault run.status → run.status ≡ 3 → ⊥
   no_three (inl is) three = absurd (omega (arith, is, three))
@@ -354,8 +370,10 @@ module _ (run : Run) (e : Ending) (cause : MayEnd run.ask run.old run.input run.
     exact = λ act name h acts faulty short within. act_status (λ n. n ≡ 3) act name h acts (three_due act h faulty short within);
     read_only = λ look name h into three opens. unless_three (look_status (λ n. n ≡ 3 → ⊥) look name h into (read_not_three look h opens)) three;
     read_exact = λ look name h into faulty short. look_status (λ n. n ≡ 3) look name h into (read_three_due look h faulty short);
-    print_only = λ listing limit name h of three opens. unless_three (print_status (λ n. n ≡ 3 → ⊥) listing limit name h of (print_not_three limit h opens)) three;
-    print_exact = λ listing limit name h of faulty short within. print_status (λ n. n ≡ 3) listing limit name h of (print_three_due limit h faulty short within);
+    rescue_only = λ name h of three ok. unless_three (rescue_status (λ n. n ≡ 3 → ⊥) name h of (rescue_not_three h ok)) three;
+    rescue_exact = λ name h of faulty short. rescue_status (λ n. n ≡ 3) name h of (rescue_three_due h faulty short);
+    print_only = λ printout limit name h of three opens. unless_three (print_status (λ n. n ≡ 3 → ⊥) printout limit name h of (print_not_three limit h opens)) three;
+    print_exact = λ printout limit name h of faulty short within. print_status (λ n. n ≡ 3) printout limit name h of (print_three_due limit h faulty short within);
   }
 
 -- an act that didn't reply that it is done left the file as it was opened
@@ -670,7 +688,8 @@ asked_counted tells (Some ask) before after t told counted = of ask.task counted
     of : (task : Task) → CountedFor tells task before after t → CountedBy before after t
     of (On act) counted = counted
     of (Read look) counted = counted
-    of (Print listing limit) counted = counted
+    of Rescue counted = counted
+    of (Print printout limit) counted = counted
     of (Create form) counted = counted
     of (Restore limit) counted = counted
     of (Backup more suffix) counted = counted
@@ -686,7 +705,8 @@ asked_failed tells (Some ask) before after t counted is none = of ask.task none 
     of : (task : Task) → has_openers task ≡ false → CountedFor tells task before after t → Rose before after
     of (On act) none counted = counted.failed is
     of (Read look) none counted = counted.failed is
-    of (Print listing limit) none counted = counted.failed is
+    of Rescue none counted = counted.failed is
+    of (Print printout limit) none counted = counted.failed is
     of (Create form) none counted = counted.failed is
     of (Restore limit) none counted = counted.failed is
     of (Backup more suffix) none counted = counted.failed is
@@ -702,7 +722,8 @@ asked_sound tells (Some ask) before after t counted other = of ask.task counted
     of : (task : Task) → CountedFor tells task before after t → after ≡ before
     of (On act) counted = counted.sound other
     of (Read look) counted = counted.sound other
-    of (Print listing limit) counted = counted.sound other
+    of Rescue counted = counted.sound other
+    of (Print printout limit) counted = counted.sound other
     of (Create form) counted = counted.sound other
     of (Restore limit) counted = counted.sound other
     of (Backup more suffix) counted = counted.sound other
@@ -945,9 +966,9 @@ module _ (run : Run) (logs later : List Logged) (t : Ending) (out : Exits run.st
   verifying : (more : List (List ℕ)) (suffix name : List ℕ) → run.ask ≡ Some (record { file = name; task = Verify more suffix }) → VerifyRun suffix (name ∷ more) run.old run.faults_before run.faults_after run.status run.now
   verifying more suffix name asks = verify_run run.faults_before run.faults_after run.status suffix (name ∷ more) run.old run.now t out counted (λ done. silent (inr (inr (inl done)))) (asked_left (Verify more suffix) name asks)
 
-  printed : (listing : Listing) (limit : ℕ) (name : List ℕ) (old : History) → PrintsOf run listing limit name old → (h : History) × (run.now name ≡ Some h) × PrintRun limit old run.faults_before run.faults_after run.status h
-  printed listing limit name old of =
-      let at = subst (λ o. PrintLeaves limit o t (run.now name)) of.there (asked_left (Print listing limit) name of.asks) in
+  printed : (printout : Printout) (limit : ℕ) (name : List ℕ) (old : History) → PrintsOf run printout limit name old → (h : History) × (run.now name ≡ Some h) × PrintRun limit old run.faults_before run.faults_after run.status h
+  printed printout limit name old of =
+      let at = subst (λ o. PrintLeaves limit o t (run.now name)) of.there (asked_left (Print printout limit) name of.asks) in
       (at.0, at.1, print_run run.faults_before run.faults_after run.status limit old at.0 t out counted at.2)
 
   turned : (options : Options) (name : List ℕ) (old : History) → run.ask ≡ Some (record { file = name; task = Turns options }) → run.old name ≡ Some old
@@ -1019,7 +1040,8 @@ module _ (run : Run) (logs later : List Logged) (t : Ending) (out : Exits run.st
       → (IsCopyName (Some (record { file = file; task = task })) name → ⊥) → HeldOrUndone (run.old name) (run.now name)
   task_kept keeps (On act) file name asks midway same at copy = at_name name file (on_kept keeps act file (run.old file) at) (same name)
   task_kept keeps (Read look) file name asks midway same at copy = at_name name file (inl at) (same name)
-  task_kept keeps (Print listing limit) file name asks midway same at copy = at_name name file (print_kept keeps limit file (run.old file) at) (same name)
+  task_kept keeps Rescue file name asks midway same at copy = at_name name file (inl at) (same name)
+  task_kept keeps (Print printout limit) file name asks midway same at copy = at_name name file (print_kept keeps limit file (run.old file) at) (same name)
   task_kept keeps (Create form) file name asks midway same at copy =
       at_name name file
       (elim ((making_run run.faults_before run.faults_after run.status form (run.old file) (run.now file) t out counted at).kept keeps) [
@@ -1067,8 +1089,9 @@ module _ (run : Run) (logs later : List Logged) (t : Ending) (out : Exits run.st
     backed_up = backing_up;
     verified = verifying;
     read = λ look name asks. asked_left (Read look) name asks;
+    rescued = λ name asks. asked_left Rescue name asks;
     printed = printed;
-    unprinted = λ listing limit name asks none. subst (λ o. PrintLeaves limit o t (run.now name)) none (asked_left (Print listing limit) name asks);
+    unprinted = λ printout limit name asks none. subst (λ o. PrintLeaves limit o t (run.now name)) none (asked_left (Print printout limit) name asks);
     turned = turned;
     unturned = λ options name asks none. subst (λ o. TurnsLeave options o t (run.now name)) none (asked_left (Turns options) name asks);
     served = served;

@@ -5,7 +5,7 @@ use Rattle.std.proofs.lemmas.Bool.{false≢true}
 use Rattle.std.proofs.lemmas.List.{append-nil}
 use Rattle.tdb_disk.specs.History.{History}
 use Rattle.tdb_cmdline.specs.declared.ask.Task.{Task}
-use Rattle.tdb_cmdline.specs.declared.ask.Task.TheVariants.{Create, On, Read, Print, Restore, Backup, Verify, Turns, Session, Generate}
+use Rattle.tdb_cmdline.specs.declared.ask.Task.TheVariants.{Create, On, Read, Rescue, Print, Restore, Backup, Verify, Turns, Session, Generate}
 use Rattle.tdb_top.specs.declared.ending.Ending.{Ending}
 use Rattle.tdb_top.specs.declared.ending.Ending.TheVariants.{Replied, Refused}
 use Rattle.tdb_top.specs.declared.ending.Reply.TheVariants.{Played}
@@ -27,7 +27,8 @@ use Rattle.tdb_top.proofs.Runs.{refusal_status}
 abbrev reads_turns : Task → Bool
 reads_turns (On act) = false
 reads_turns (Read look) = false
-reads_turns (Print listing limit) = false
+reads_turns Rescue = false
+reads_turns (Print printout limit) = false
 reads_turns (Create form) = false
 reads_turns (Restore limit) = false
 reads_turns (Backup more suffix) = false

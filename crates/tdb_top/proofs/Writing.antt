@@ -7,7 +7,7 @@ use Rattle.std.proofs.Math.Seq.{take-append-add, take-append_seam}
 use Rattle.tdb_disk.specs.Count.{Rose, HasCause}
 use Rattle.tdb_disk.specs.History.{History}
 use Rattle.tdb_cmdline.specs.declared.ask.Task.{Task}
-use Rattle.tdb_cmdline.specs.declared.ask.Task.TheVariants.{Create, On, Read, Print, Restore, Backup, Verify, Turns, Session, Generate}
+use Rattle.tdb_cmdline.specs.declared.ask.Task.TheVariants.{Create, On, Read, Rescue, Print, Restore, Backup, Verify, Turns, Session, Generate}
 use Rattle.tdb_top.specs.declared.ending.Ending.{Ending}
 use Rattle.tdb_top.specs.declared.ending.Ending.TheVariants.{Replied, Refused, Missing, There, Usage, DeviceFault, InputFault, Malformed, NoMemory, LogFault}
 use Rattle.tdb_top.specs.declared.ending.Unprinted.{Unprinted}
@@ -20,8 +20,9 @@ use Rattle.tdb_cmdline.specs.Ask.{Ask}
 use Rattle.tdb_top.specs.Ending.{TakesMemory, PrintedFor, text_of}
 use Rattle.tdb_top.specs.Output.{output_by}
 use Rattle.tdb_top.specs.Looks.{LookText, StandsBefore, before_reply, rest_of, ending_of, Began}
-use Rattle.tdb_dump.specs.declared.listing.Listing.{Listing}
+use Rattle.tdb_cmdline.specs.declared.printout.Printout.{Printout}
 use Rattle.tdb_top.specs.Commands.Print.{PrintText}
+use Rattle.tdb_top.specs.Commands.Rescue.{RescueText}
 use Rattle.tdb_top.specs.Commands.Session.{SessionText}
 use Rattle.tdb_top.specs.Commands.Turns.{TurnsText}
 use Rattle.tdb_commands.specs.declared.options.Options.{Options}
@@ -93,9 +94,13 @@ look_wanting (Value key) held written t takes text = text
 look_wanting Dump None written t takes text = text
 look_wanting Dump (Some h) written t takes text = stands_wanting _ written t takes text
 
-print_wanting : (listing : Listing) (held : Option History) (written : List ℕ) (t : Ending) → TakesMemory t → PrintText listing held t written → PrintText listing held NoMemory written
-print_wanting listing None written t takes text = text
-print_wanting listing (Some h) written t takes text = stands_wanting _ written t takes text
+print_wanting : (printout : Printout) (held : Option History) (written : List ℕ) (t : Ending) → TakesMemory t → PrintText printout held t written → PrintText printout held NoMemory written
+print_wanting printout None written t takes text = text
+print_wanting printout (Some h) written t takes text = stands_wanting _ written t takes text
+
+rescue_wanting : (held : Option History) (written : List ℕ) (t : Ending) → TakesMemory t → RescueText held t written → RescueText held NoMemory written
+rescue_wanting None written t takes text = text
+rescue_wanting (Some h) written t takes text = stands_wanting _ written t takes text
 
 task_wanting : (task : Task) (name : List ℕ) (held : List ℕ → Option History) (written : List ℕ) (t : Ending) → TakesMemory t → TaskText task name held t written → TaskText task name held NoMemory written
 task_wanting (On act) name held written t takes text = text
@@ -107,7 +112,8 @@ task_wanting (Turns options) name held written t takes text = turns_wanting opti
 task_wanting (Session limit) name held written t takes text = session_wanting limit (held name) written t text
 task_wanting (Generate commands seed) name held written t takes text = text
 task_wanting (Read look) name held written t takes text = look_wanting look (held name) written t takes text
-task_wanting (Print listing limit) name held written t takes text = print_wanting listing (held name) written t takes text
+task_wanting Rescue name held written t takes text = rescue_wanting (held name) written t takes text
+task_wanting (Print printout limit) name held written t takes text = print_wanting printout (held name) written t takes text
 
 text_wanting : (ask : Option Ask) (held : List ℕ → Option History) (written : List ℕ) (t : Ending) → TakesMemory t → TextBefore ask held t written → TextBefore ask held NoMemory written
 text_wanting None held written t takes text = text
@@ -119,9 +125,9 @@ look_nothing (Value key) held = refl
 look_nothing Dump None = refl
 look_nothing Dump (Some h) = (0, refl)
 
-print_nothing : (listing : Listing) (held : Option History) → PrintText listing held NoMemory []
-print_nothing listing None = refl
-print_nothing listing (Some h) = (0, refl)
+print_nothing : (printout : Printout) (held : Option History) → PrintText printout held NoMemory []
+print_nothing printout None = refl
+print_nothing printout (Some h) = (0, refl)
 
 turns_nothing : (options : Options) (held : Option History) → TurnsText options held NoMemory []
 turns_nothing options None = refl
@@ -130,6 +136,10 @@ turns_nothing options (Some h) = inl refl
 session_nothing : (limit : ℕ) (held : Option History) → SessionText limit held NoMemory []
 session_nothing limit None = refl
 session_nothing limit (Some h) = inl refl
+
+rescue_nothing : (held : Option History) → RescueText held NoMemory []
+rescue_nothing None = refl
+rescue_nothing (Some h) = (0, refl)
 
 task_nothing : (task : Task) (name : List ℕ) (held : List ℕ → Option History) → TaskText task name held NoMemory []
 task_nothing (On act) name held = refl
@@ -141,7 +151,8 @@ task_nothing (Turns options) name held = turns_nothing options (held name)
 task_nothing (Session limit) name held = session_nothing limit (held name)
 task_nothing (Generate commands seed) name held = refl
 task_nothing (Read look) name held = look_nothing look (held name)
-task_nothing (Print listing limit) name held = print_nothing listing (held name)
+task_nothing Rescue name held = rescue_nothing (held name)
+task_nothing (Print printout limit) name held = print_nothing printout (held name)
 
 pub nothing_before : (ask : Option Ask) (held : List ℕ → Option History) → TextBefore ask held NoMemory []
 nothing_before None held = refl
@@ -166,7 +177,8 @@ task_heard (Verify more suffix) files output told = and_left output files told
 task_heard (Turns options) files output told = and_left output files told
 task_heard (Session limit) files output told = and_left output files told
 task_heard (Generate commands seed) files output told = told
-task_heard (Print listing limit) files output told = and_left output files told
+task_heard Rescue files output told = and_left output files told
+task_heard (Print printout limit) files output told = and_left output files told
 task_heard (Read (Value key)) files output told = told
 task_heard (Read Dump) files output told = and_left output files told
 

@@ -11,6 +11,7 @@ pub mod Quit
 pub mod Create
 pub mod Dump
 pub mod Print
+pub mod Rescue
 pub mod Restore
 pub mod Backup
 pub mod Verify

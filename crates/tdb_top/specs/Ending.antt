@@ -11,7 +11,7 @@ use Rattle.tdb_dump.specs.Line.{data_line, pair_line}
 use Rattle.tdb_cmdline.specs.declared.act.Act.{Act}
 use Rattle.tdb_cmdline.specs.declared.look.Look.{Look}
 use Rattle.tdb_cmdline.specs.declared.ask.Task.{Task}
-use Rattle.tdb_cmdline.specs.declared.ask.Task.TheVariants.{Create, On, Read, Print, Restore, Backup, Verify, Turns, Session, Generate}
+use Rattle.tdb_cmdline.specs.declared.ask.Task.TheVariants.{Create, On, Read, Rescue, Print, Restore, Backup, Verify, Turns, Session, Generate}
 use Rattle.tdb_top.specs.declared.ending.Ending.{Ending}
 use Rattle.tdb_top.specs.declared.ending.Ending.TheVariants.{Replied, Refused, Missing, There, Usage, DeviceFault, InputFault, Malformed, NoMemory, LogFault}
 use Rattle.tdb_top.specs.declared.ending.Reply.TheVariants.{Done, Value, Escaped, Dumped, Restored, Copied, Verified, KeyMissing, KeyThere, NoTransaction, Full, Number, Pair, End, Played, Closed, Generated}
@@ -24,6 +24,7 @@ use Rattle.tdb_cmdline.specs.declared.lines.create.NewFile.{NewFile}
 use Rattle.tdb_open.specs.Creating.{new_length}
 use Rattle.tdb_top.specs.Acts.{reply_of}
 use Rattle.tdb_top.specs.Looks.{look_reply}
+use Rattle.tdb_top.specs.Commands.Rescue.{RescueDue}
 use Rattle.tdb_top.specs.Output.{Output}
 use Rattle.tdb_open.specs.Opening.{opened_bytes, CanOpen, CanRead, IsRefusedToRead, IsRefusedBelow}
 
@@ -115,8 +116,8 @@ pub record RefusesToRead (img : List ℕ) (e : Ending) : Type 0 where
   pub right : IsRefusedToRead img refusal
   pub refused : e ≡ Refused refusal
 
--- the file with these bytes, which may have so many, is opened, and its pairs are printed
-pub record PrintsPairs (limit : ℕ) (img : List ℕ) (e : Ending) : Type 0 where
+-- the file with these bytes, which may have so many, is opened, and what was asked for is printed of it
+pub record PrintsOpened (limit : ℕ) (img : List ℕ) (e : Ending) : Type 0 where
   pub within : length img ≤ limit
   pub can_open : CanOpen img
   pub printed : e ≡ Replied Dumped
@@ -127,8 +128,8 @@ MakingDue file e =
     ((new_length file.form ≤ file.limit) × (e ≡ Replied Done)) ⊎ ((file.limit < new_length file.form) × (e ≡ Refused (TooLong (new_length file.form))))
 
 -- How a task on the file of this name ends, by what is held there, where no call failed and memory sufficed. An act, a
--- look and a printing are on a file that is there; a file is made where none is. How a restore ends where no file is
--- depends on its input, as turns and a session do, how a backup and a verification end on all their files
+-- look, a rescue and a printing are on a file that is there; a file is made where none is. How a restore ends where no
+-- file is depends on its input, as turns and a session do, how a backup and a verification end on all their files
 -- (`BackupEnds`, `VerifyEnds`), and how generated commands end on how they were done (`GenSo`), so none is due to what
 -- is held at one name.
 abbrev pub TaskDue : Task → List ℕ → Option History → Ending → Type 0
@@ -136,8 +137,10 @@ TaskDue (On act) name None e = e ≡ Missing name
 TaskDue (On act) name (Some h) e = Replies act (seen h) e ⊎ Refuses act.limit (seen h) e
 TaskDue (Read look) name None e = e ≡ Missing name
 TaskDue (Read look) name (Some h) e = LookReplies look (seen h) e ⊎ RefusesToRead (seen h) e
-TaskDue (Print listing limit) name None e = e ≡ Missing name
-TaskDue (Print listing limit) name (Some h) e = PrintsPairs limit (seen h) e ⊎ Refuses limit (seen h) e
+TaskDue Rescue name None e = e ≡ Missing name
+TaskDue Rescue name (Some h) e = RescueDue (seen h) e
+TaskDue (Print printout limit) name None e = e ≡ Missing name
+TaskDue (Print printout limit) name (Some h) e = PrintsOpened limit (seen h) e ⊎ Refuses limit (seen h) e
 TaskDue (Create form) name None e = MakingDue form e
 TaskDue (Create form) name (Some h) e = e ≡ There name
 TaskDue (Restore limit) name None e = ⊥
@@ -178,7 +181,8 @@ pub record CountedIf (tells : Bool) (before after : ℕ) (e : Ending) : Type 0 w
 abbrev pub has_openers : Task → Bool
 has_openers (On act) = false
 has_openers (Read look) = false
-has_openers (Print listing limit) = false
+has_openers Rescue = false
+has_openers (Print printout limit) = false
 has_openers (Create form) = false
 has_openers (Restore limit) = false
 has_openers (Backup more suffix) = false
@@ -195,7 +199,8 @@ asks_openers (Some ask) = has_openers ask.task
 abbrev pub CountedFor : Bool → Task → ℕ → ℕ → Ending → Type 0
 CountedFor tells (On act) before after e = CountedBy before after e
 CountedFor tells (Read look) before after e = CountedBy before after e
-CountedFor tells (Print listing limit) before after e = CountedBy before after e
+CountedFor tells Rescue before after e = CountedBy before after e
+CountedFor tells (Print printout limit) before after e = CountedBy before after e
 CountedFor tells (Create form) before after e = CountedBy before after e
 CountedFor tells (Restore limit) before after e = CountedBy before after e
 CountedFor tells (Backup more suffix) before after e = CountedBy before after e

@@ -15,7 +15,7 @@ use Rattle.tdb_open.specs.declared.opening.Opened.{Opened}
 use Rattle.tdb_cmdline.specs.CopyNames.{copy_name}
 use Rattle.tdb_cmdline.specs.Ask.{Ask}
 use Rattle.tdb_cmdline.specs.declared.ask.Task.{Task}
-use Rattle.tdb_cmdline.specs.declared.ask.Task.TheVariants.{Create, On, Read, Print, Restore, Backup, Verify, Turns, Session, Generate}
+use Rattle.tdb_cmdline.specs.declared.ask.Task.TheVariants.{Create, On, Read, Rescue, Print, Restore, Backup, Verify, Turns, Session, Generate}
 use Rattle.tdb_top.specs.declared.ending.Ending.{Ending}
 use Rattle.tdb_top.specs.declared.ending.Ending.TheVariants.{Replied, DeviceFault, NoMemory, LogFault}
 use Rattle.tdb_top.specs.declared.ending.Reply.{Reply}
@@ -119,11 +119,12 @@ VerifyHeard suffix (file ∷ files) held e old new =
     ⊎ ((mid : List Logged) × CountHeard (held file) (held (copy_name suffix file)) (Replied Verified) old mid × VerifyHeard suffix files held e mid new)
 
 -- What logs heard of a task on the file of this name that ended so, by what was held at each name before and after. The
--- making of a file, of the pairs on the input too, tells them nothing.
+-- making of a file, of the pairs on the input too, and a rescue tell them nothing.
 abbrev pub TaskHeard : Task → List ℕ → (List ℕ → Option History) → (List ℕ → Option History) → Ending → List Logged → List Logged → Type 0
 TaskHeard (On act) name held now e old new = ActHeard act.limit (held name) (now name) e old new
 TaskHeard (Read look) name held now e old new = LookHeard (held name) e old new
-TaskHeard (Print listing limit) name held now e old new = PrintHeard limit (held name) e old new
+TaskHeard Rescue name held now e old new = NothingHeard e old new
+TaskHeard (Print printout limit) name held now e old new = PrintHeard limit (held name) e old new
 TaskHeard (Create form) name held now e old new = NothingHeard e old new
 TaskHeard (Restore limit) name held now e old new = NothingHeard e old new
 TaskHeard (Backup more suffix) name held now e old new = BackupHeard (name ∷ more) held e old new

@@ -4,7 +4,7 @@ use Rattle.tdb_disk.specs.Count.{Rose}
 use Rattle.tdb_disk.specs.History.{History}
 use Rattle.tdb_top.specs.declared.ending.Unprinted.{Unprinted}
 use Rattle.tdb_cmdline.specs.declared.ask.Task.{Task}
-use Rattle.tdb_cmdline.specs.declared.ask.Task.TheVariants.{Create, On, Read, Print, Restore, Backup, Verify, Turns, Session, Generate}
+use Rattle.tdb_cmdline.specs.declared.ask.Task.TheVariants.{Create, On, Read, Rescue, Print, Restore, Backup, Verify, Turns, Session, Generate}
 use Rattle.tdb_top.specs.declared.ending.Ending.{Ending}
 use Rattle.tdb_top.specs.declared.ending.Ending.TheVariants.{Replied}
 use Rattle.tdb_top.specs.declared.ending.Reply.TheVariants.{Restored, Copied, Verified, Closed}
@@ -12,17 +12,19 @@ use Rattle.tdb_cmdline.specs.Ask.{Ask}
 use Rattle.tdb_top.specs.Ending.{Prints, status_of, text_of}
 use Rattle.tdb_top.specs.Output.{Output}
 use Rattle.tdb_top.specs.Commands.Print.{PrintText}
+use Rattle.tdb_top.specs.Commands.Rescue.{RescueText}
 use Rattle.tdb_top.specs.Commands.Session.{SessionText}
 use Rattle.tdb_top.specs.Commands.Turns.{TurnsText}
 use Rattle.tdb_top.specs.Commands.Verify.{VerifyText}
 use Rattle.tdb_top.specs.Looks.{LookText, look_tells, rest_of}
 
 -- what a task on the file of this name prints before the line of its ending, by what is held at each name; looks,
--- printings, turns, sessions and verifications print such a text
+-- rescues, printings, turns, sessions and verifications print such a text
 abbrev pub TaskText : Task → List ℕ → (List ℕ → Option History) → Ending → List ℕ → Type 0
 TaskText (On act) name held e text = text ≡ []
 TaskText (Read look) name held e text = LookText look (held name) e text
-TaskText (Print listing limit) name held e text = PrintText listing (held name) e text
+TaskText Rescue name held e text = RescueText (held name) e text
+TaskText (Print printout limit) name held e text = PrintText printout (held name) e text
 TaskText (Create form) name held e text = text ≡ []
 TaskText (Restore limit) name held e text = text ≡ []
 TaskText (Backup more suffix) name held e text = text ≡ []
@@ -36,12 +38,13 @@ abbrev pub TextBefore : Option Ask → (List ℕ → Option History) → Ending 
 TextBefore None held e text = text ≡ []
 TextBefore (Some ask) held e text = TaskText ask.task ask.file held e text
 
--- whether it is told what a task prints, by whether the files and the output tell; where a file's pairs, a report of
--- it, replies over it or the number of its keys are printed the files have to tell too
+-- whether it is told what a task prints, by whether the files and the output tell; where a file's pairs, what it holds,
+-- a report of it, replies over it or the number of its keys are printed the files have to tell too
 abbrev pub task_tells : Task → Bool → Bool → Bool
 task_tells (On act) files output = output
 task_tells (Read look) files output = look_tells look files output
-task_tells (Print listing limit) files output = output && files
+task_tells Rescue files output = output && files
+task_tells (Print printout limit) files output = output && files
 task_tells (Create form) files output = output
 task_tells (Restore limit) files output = output
 task_tells (Backup more suffix) files output = output

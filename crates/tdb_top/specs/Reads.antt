@@ -2,7 +2,7 @@
 use Rattle.std.specs.Prelude.{◌≡◌, ◌⊎◌, ℕ, Bool, true, false, Option, None, Some, List, ◌∷◌}
 use Rattle.tdb_disk.specs.History.{History}
 use Rattle.tdb_cmdline.specs.declared.ask.Task.{Task}
-use Rattle.tdb_cmdline.specs.declared.ask.Task.TheVariants.{Create, On, Read, Print, Restore, Backup, Verify, Turns, Session, Generate}
+use Rattle.tdb_cmdline.specs.declared.ask.Task.TheVariants.{Create, On, Read, Rescue, Print, Restore, Backup, Verify, Turns, Session, Generate}
 use Rattle.tdb_top.specs.declared.ending.Ending.{Ending}
 use Rattle.tdb_cmdline.specs.Ask.{Ask}
 use Rattle.tdb_top.specs.Commands.Backup.{BackupEnds}
@@ -19,7 +19,8 @@ use Rattle.tdb_top.specs.Input.{Input}
 abbrev pub reads_input : Task → Bool
 reads_input (On act) = false
 reads_input (Read look) = false
-reads_input (Print listing limit) = false
+reads_input Rescue = false
+reads_input (Print printout limit) = false
 reads_input (Create form) = false
 reads_input (Restore limit) = true
 reads_input (Backup more suffix) = false

@@ -4,11 +4,12 @@ use Rattle.std.specs.Prelude.{String}
 use Rattle.std.specs.Global.{Global}
 use Rattle.tdb_disk.specs.Count.{Rose}
 use Rattle.tdb_disk.specs.History.{History, seen}
+use Rattle.tdb_words.specs.Header.{HeaderOk}
 use Rattle.tdb_space.specs.Opening.{Opens}
 use Rattle.tdb_cmdline.specs.declared.act.Act.{Act}
 use Rattle.tdb_cmdline.specs.declared.look.Look.{Look}
 use Rattle.tdb_cmdline.specs.declared.ask.Task.{Task}
-use Rattle.tdb_cmdline.specs.declared.ask.Task.TheVariants.{Create, On, Read, Print, Restore, Backup, Verify, Turns, Session, Generate}
+use Rattle.tdb_cmdline.specs.declared.ask.Task.TheVariants.{Create, On, Read, Rescue, Print, Restore, Backup, Verify, Turns, Session, Generate}
 use Rattle.tdb_cmdline.specs.declared.lines.create.NewFile.{NewFile}
 use Rattle.tdb_top.specs.declared.commands.create.Creation.TheVariants.{Made, Device}
 use Rattle.tdb_top.specs.declared.ending.Ending.{Ending}
@@ -35,7 +36,7 @@ use Rattle.tdb_top.specs.Commands.Generate.{GenSo, HasMade}
 use Rattle.tdb_top.specs.Commands.Verify.{VerifyEnds, VerifiedAll, LeftAt}
 use Rattle.tdb_gen.specs.declared.summary.Summary.{Summary}
 use Rattle.tdb_gen.specs.Summary.{summary_text}
-use Rattle.tdb_dump.specs.declared.listing.Listing.{Listing}
+use Rattle.tdb_cmdline.specs.declared.printout.Printout.{Printout}
 use Rattle.tdb_commands.specs.declared.options.Options.{Options}
 use Rattle.tdb_world.specs.Courses.Hearing.{HeardUpTo}
 use Rattle.tdb_log.specs.Logs.{Logged}
@@ -114,21 +115,28 @@ pub record LooksInto (run : Run) (look : Look) (name : List ℕ) (old : History)
   pub asks : run.ask ≡ Some (record { file = name; task = Read look })
   pub there : run.old name ≡ Some old
 
--- the words ask to print the pairs of a file that is there and has this history
-pub record PrintsOf (run : Run) (listing : Listing) (limit : ℕ) (name : List ℕ) (old : History) : Type 0 where
-  pub asks : run.ask ≡ Some (record { file = name; task = Print listing limit })
+-- the words ask for what can still be read of a file that is there and has this history
+pub record Rescues (run : Run) (name : List ℕ) (old : History) : Type 0 where
+  pub asks : run.ask ≡ Some (record { file = name; task = Rescue })
+  pub there : run.old name ≡ Some old
+
+-- the words ask to print this of a file that is there and has this history
+pub record PrintsOf (run : Run) (printout : Printout) (limit : ℕ) (name : List ℕ) (old : History) : Type 0 where
+  pub asks : run.ask ≡ Some (record { file = name; task = Print printout limit })
   pub there : run.old name ≡ Some old
 
 -- Of an act, a look or a printing status 3 comes only over a file whose bytes can't be opened, in the way that the
--- command opens it; and over each that is no longer than the longest and than it may be nothing else comes, unless a
--- call or a log failed or memory was wanting.
+-- command opens it, and of a rescue only over one that has no header without a fault; and over each that is no longer
+-- than the longest and than it may be nothing else comes, unless a call or a log failed or memory was wanting.
 pub record RefusesExactly (run : Run) : Type 0 where
   pub only : (act : Act) (name : List ℕ) (h : History) → ActsOn run act name h → run.status ≡ 3 → Opens (seen h) → ⊥
   pub exact : (act : Act) (name : List ℕ) (h : History) → ActsOn run act name h → (Opens (seen h) → ⊥) → length (seen h) ≤ LONGEST_FILE → length (seen h) ≤ act.limit → (run.status ≡ 3) ⊎ TellsFault run.status
   pub read_only : (look : Look) (name : List ℕ) (h : History) → LooksInto run look name h → run.status ≡ 3 → OpensToRead (seen h) → ⊥
   pub read_exact : (look : Look) (name : List ℕ) (h : History) → LooksInto run look name h → (OpensToRead (seen h) → ⊥) → length (seen h) ≤ LONGEST_FILE → (run.status ≡ 3) ⊎ TellsFault run.status
-  pub print_only : (listing : Listing) (limit : ℕ) (name : List ℕ) (h : History) → PrintsOf run listing limit name h → run.status ≡ 3 → Opens (seen h) → ⊥
-  pub print_exact : (listing : Listing) (limit : ℕ) (name : List ℕ) (h : History) → PrintsOf run listing limit name h → (Opens (seen h) → ⊥) → length (seen h) ≤ LONGEST_FILE → length (seen h) ≤ limit → (run.status ≡ 3) ⊎ TellsFault run.status
+  pub rescue_only : (name : List ℕ) (h : History) → Rescues run name h → run.status ≡ 3 → HeaderOk (seen h) → ⊥
+  pub rescue_exact : (name : List ℕ) (h : History) → Rescues run name h → (HeaderOk (seen h) → ⊥) → length (seen h) ≤ LONGEST_FILE → (run.status ≡ 3) ⊎ TellsFault run.status
+  pub print_only : (printout : Printout) (limit : ℕ) (name : List ℕ) (h : History) → PrintsOf run printout limit name h → run.status ≡ 3 → Opens (seen h) → ⊥
+  pub print_exact : (printout : Printout) (limit : ℕ) (name : List ℕ) (h : History) → PrintsOf run printout limit name h → (Opens (seen h) → ⊥) → length (seen h) ≤ LONGEST_FILE → length (seen h) ≤ limit → (run.status ≡ 3) ⊎ TellsFault run.status
 
 -- a status after which every file is as before or undone, whatever the words ask for, but for copies and restored
 -- files, and for turns and sessions that ended in their midst (`EndsMidway`): it says neither that it was done, nor
@@ -161,9 +169,8 @@ pub record ActRun (act : Act) (old : History) (before after status : ℕ) (now :
 abbrev pub IsLeftEmpty : NewFile → Option History → Option History → Type 0
 IsLeftEmpty file old now = (file.limit < new_length file.form) × LeftEmpty old now
 
--- What a run leaves of the file whose pairs are printed, which held this: what its opening leaves. Want of memory,
--- status 5, may come before the file was opened, and after a fault of the output, status 8, the opening may have
--- failed.
+-- What a run leaves of the file of a printing, which held this: what its opening leaves. Want of memory, status 5, may
+-- come before the file was opened, and after a fault of the output, status 8, the opening may have failed.
 pub record PrintRun (limit : ℕ) (old : History) (before after status : ℕ) (now : History) : Type 0 where
   pub any : SameOrUndone old now ⊎ (Rose before after × LookBroken old now)
   pub failed : status ≡ 4 → LookBroken old now
@@ -258,9 +265,10 @@ pub record LeavesFiles (run : Run) (logs later : List Logged) : Type 0 where
   pub verified : (more : List (List ℕ)) (suffix name : List ℕ) → run.ask ≡ Some (record { file = name; task = Verify more suffix })
       → VerifyRun suffix (name ∷ more) run.old run.faults_before run.faults_after run.status run.now
   pub read : (look : Look) (name : List ℕ) → run.ask ≡ Some (record { file = name; task = Read look }) → run.now name ≡ run.old name
-  pub printed : (listing : Listing) (limit : ℕ) (name : List ℕ) (old : History) → PrintsOf run listing limit name old
+  pub rescued : (name : List ℕ) → run.ask ≡ Some (record { file = name; task = Rescue }) → run.now name ≡ run.old name
+  pub printed : (printout : Printout) (limit : ℕ) (name : List ℕ) (old : History) → PrintsOf run printout limit name old
       → (h : History) × (run.now name ≡ Some h) × PrintRun limit old run.faults_before run.faults_after run.status h
-  pub unprinted : (listing : Listing) (limit : ℕ) (name : List ℕ) → run.ask ≡ Some (record { file = name; task = Print listing limit }) → run.old name ≡ None → run.now name ≡ None
+  pub unprinted : (printout : Printout) (limit : ℕ) (name : List ℕ) → run.ask ≡ Some (record { file = name; task = Print printout limit }) → run.old name ≡ None → run.now name ≡ None
   pub turned : (options : Options) (name : List ℕ) (old : History) → run.ask ≡ Some (record { file = name; task = Turns options }) → run.old name ≡ Some old
       → (h : History) × (run.now name ≡ Some h) × TurnsRun options run.input run.output old run.faults_before run.faults_after run.status h logs later
   pub unturned : (options : Options) (name : List ℕ) → run.ask ≡ Some (record { file = name; task = Turns options }) → run.old name ≡ None → run.now name ≡ None

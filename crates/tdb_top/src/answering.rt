@@ -25,6 +25,7 @@ use crate::commands::backup::back_up;
 use crate::commands::create::create_file;
 use crate::commands::generate::generate_file;
 use crate::commands::print::print_on_file;
+use crate::commands::rescue::rescue_on_file;
 use crate::commands::restore::restore_file;
 use crate::commands::session::session_on_file;
 use crate::commands::turns::turns_on_file;
@@ -70,8 +71,9 @@ pub(crate) fn answer_ask<F: Files, S: Source, K: Sink, L: Logs>(
     match &ask.task {
         Task::On(act) => Ok(act_on_file(alloc, name, act, files, logs)),
         Task::Read(look) => look_on_file(alloc, name, look, files, output, logs),
-        Task::Print { listing, limit } => {
-            print_on_file(alloc, name, *listing, *limit, files, output, logs)
+        Task::Rescue => rescue_on_file(alloc, name, files, output),
+        Task::Print { printout, limit } => {
+            print_on_file(alloc, name, *printout, *limit, files, output, logs)
         }
         Task::Create(file) => {
             let creation = create_file(alloc, name, *file, files);

@@ -11,6 +11,7 @@ pub(crate) mod generate;
 pub(crate) mod insert;
 pub(crate) mod print;
 pub(crate) mod quit;
+pub(crate) mod rescue;
 pub(crate) mod restore;
 pub(crate) mod session;
 pub(crate) mod show;

@@ -51,7 +51,7 @@ pub(crate) enum Reply {
     /// The value of the key, which is printed without a length.
     Escaped(Bytes),
 
-    /// All pairs were printed. No line tells it.
+    /// All was printed that was asked for of a file. No line tells it.
     Dumped,
 
     /// A file was made of the pairs on the input. No line tells it.
@@ -131,7 +131,7 @@ pub(crate) enum Ending {
 /// What was left to be told where the output failed.
 #[derive(Clone, Copy, Debug, PartialEq, Eq, Error)]
 pub(crate) enum Unprinted {
-    /// The rest of the pairs of a file.
+    /// The rest of what is printed of a file: of its pairs, or of what it holds.
     #[error("pairs aren't printed")]
     Pairs,
 

@@ -15,10 +15,10 @@ ghost use Rattle.tdb_top.specs.Looks.{LookEnds, LookText, look_tells, ending_of,
 ghost use Rattle.tdb_open.specs.Opening.{CanRead, IsCheckedOn};
 
 use crate::commands::dump::value;
-use crate::commands::print::print_pairs;
+use crate::commands::print::print_opened;
 use crate::ending::{Ending, Unprinted};
 use std::alloc::Global;
-use tdb_cmdline::Look;
+use tdb_cmdline::{Look, Printout};
 use tdb_disk::{Disk, Files, Sink, Take};
 use tdb_dump::Listing;
 use tdb_log::Logs;
@@ -45,7 +45,7 @@ fn look_into<D: Disk, K: Sink>(
     ensures unlogged { ending_of result ≢ LogFault }
 {
     match look {
-        Look::Dump => print_pairs(alloc, disk, opened, Listing::Pairs, output),
+        Look::Dump => print_opened(alloc, disk, opened, Printout::Pairs(Listing::Pairs), output),
         Look::Value { key } => Ok(value(alloc, disk, opened, key.as_slice())),
     }
 }

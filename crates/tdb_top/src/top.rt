@@ -87,6 +87,7 @@ fn finish<K: Sink>(alloc: Global, answered: &Result<Ending, Unprinted>, output: 
 /// | 0 | the key is added, stored or deleted, all keys are taken out, or the file is made | `ok` |
 /// | 0 | the file is accepted, and has `N` keys | `number N` |
 /// | 0 | all pairs are printed, or all keys | their dump text, a line for each key |
+/// | 0 | it is told what the file holds | its numbers, its chains and their records, or its free records |
 /// | 0 | the value of the one key is printed | `TEXT` |
 /// | 0 | the first pair is shown | `key(N) = "TEXT" data(N) = "TEXT"` |
 /// | 0 | there is no pair, or none behind the one shown last | `end` |
@@ -121,8 +122,16 @@ fn finish<K: Sink>(alloc: Global, answered: &Result<Ending, Unprinted>, output: 
 /// reads each record once more, in the order of the chains, and writes the pairs in pieces of at least 64 KiB; it holds
 /// one pair. With `-k` it looks up one value, and prints that.
 ///
+/// The command `dump -e FILE` tests the length and the header alone, and follows no list. It prints in the same way the
+/// pair of each used record that stands whole, in order of place; `rescue` of `tdb_rescue` tells its time. The file
+/// isn't changed, and no log is told.
+///
 /// The commands `tool FILE dump`, `tool FILE keys` and `tool FILE hexkeys` open the file as a show does, and print all
 /// pairs in the same way, or a line for each key. The command `tool FILE first` reads the first pair alone.
+///
+/// The commands `tool FILE info`, `tool FILE list` and `tool FILE free` open the file as a show does. They read the
+/// header of each record, or of each free one, and print what the check counted with the bytes of all keys and values,
+/// the chains with their records, or the free records. A list holds one chain at a time.
 ///
 /// The command `restore FILE` makes a file as `create` does, reads the input in pieces of 64 KiB, adds each pair
 /// without looking its key up, and syncs: time is linear in the text and in the file. It holds all keys, so as to

@@ -94,7 +94,7 @@ returns-in-Generate-clause-cause g c told =
     gen_ends (input_by g.S.Source.tells (g.S.Source.left c.args.input.now) (g.S.Source.faults c.args.input.now) (g.S.Source.faults c.args.input.now)) c.args.ask.now.task c.in-Generate.commands c.in-Generate.seed (string_bytes c.args.ask.now.file) held before now e c.in-Generate.is
     (subst (λ n. GenCause c.in-Generate.commands c.in-Generate.seed n (held n) before now e) c.as_str-name.ensures.value (c.generate_file.ensures.cause told))
 
--- what logs heard of a file that was to be made, of the pairs on the input too
+-- what logs heard of a file that was to be made, of the pairs on the input too, and of a rescue
 pub returns-in-Create-clause-told : goal.returns-in-Create-clause-told
 returns-in-Create-clause-told g c told =
     let held = g.F.Files.held c.args.files.now in
@@ -110,6 +110,14 @@ returns-in-Restore-clause-told g c told =
     let logs = g.L.Logs.logs c.args.logs.now in
     subst (λ t. TaskHeard t (string_bytes c.args.ask.now.file) held now c.restore_file.result logs logs) (sym c.in-Restore.is)
     (refl, c.restore_file.ensures.unlogged)
+
+pub returns-in-Rescue-clause-told : goal.returns-in-Rescue-clause-told
+returns-in-Rescue-clause-told g c told =
+    let held = g.F.Files.held c.args.files.now in
+    let now = g.F.Files.held c.rescue_on_file.new.files in
+    let logs = g.L.Logs.logs c.args.logs.now in
+    subst (λ t. TaskHeard t (string_bytes c.args.ask.now.file) held now (ending_of c.rescue_on_file.result) logs logs) (sym c.in-Rescue.is)
+    (refl, c.rescue_on_file.ensures.unlogged told)
 
 -- and of files that were verified
 pub returns-in-Verify-clause-told : goal.returns-in-Verify-clause-told

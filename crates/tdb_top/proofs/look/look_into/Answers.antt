@@ -11,7 +11,7 @@ use Rattle.tdb_top.proofs.look.look_into.Goals as goal
 -- a dump ends as its printing does
 pub returns-in-Dump-clause-ends : goal.returns-in-Dump-clause-ends
 returns-in-Dump-clause-ends g c told =
-    rw c.in-Dump.is (dump_ends (seen (g.D.Disk.history c.args.disk.now)) (ending_of c.print_pairs.result) (c.requires.can_read told) c.print_pairs.ensures.ends)
+    rw c.in-Dump.is (dump_ends (seen (g.D.Disk.history c.args.disk.now)) (ending_of c.print_opened.result) (c.requires.can_read told) c.print_opened.ensures.ends)
 
 -- and has written what that has
 pub returns-in-Dump-clause-began : goal.returns-in-Dump-clause-began
@@ -20,4 +20,4 @@ returns-in-Dump-clause-began g c =
     rw c.in-Dump.is
     (λ both.
     (let parts = and_parts g.K.Sink.tells g.D.Disk.tells both in
-    began_as (StandsBefore (pairs_text Pairs (seen h))) (LookText Dump (Some h)) (g.K.Sink.written c.args.output.now) (g.K.Sink.written c.print_pairs.new.output) c.print_pairs.result (λ e text stands. stands) (c.print_pairs.ensures.began parts.1 parts.0)))
+    began_as (StandsBefore (pairs_text Pairs (seen h))) (LookText Dump (Some h)) (g.K.Sink.written c.args.output.now) (g.K.Sink.written c.print_opened.new.output) c.print_opened.result (λ e text stands. stands) (c.print_opened.ensures.began parts.1 parts.0)))

@@ -1,7 +1,6 @@
 use Rattle.std.proofs.Common.{[], Some, sym, subst}
 use Rattle.tdb_disk.specs.History.{seen}
-use Rattle.tdb_top.specs.Commands.Dump.{pairs_text}
-use Rattle.tdb_top.specs.Commands.Print.{PrintLeft, PrintText}
+use Rattle.tdb_top.specs.Commands.Print.{PrintLeft, PrintText, printout_text}
 use Rattle.tdb_top.specs.Looks.{StandsBefore, ending_of}
 use Rattle.tdb_open.specs.Opening.{UndoneIfOpen, opened_bytes}
 use Rattle.tdb_open.specs.Notices.{BelowHeard}
@@ -15,15 +14,15 @@ use Rattle.tdb_top.proofs.commands.print.print_on_disk.Goals as goal
 pub returns-in-Ok-clause-left : goal.returns-in-Ok-clause-left
 returns-in-Ok-clause-left g c told =
     let old = g.D.Disk.history c.args.disk.now in
-    opened_print c.args.limit old (g.D.Disk.history c.print_pairs.new.disk) (ending_of c.print_pairs.result) (c.in-Ok.ensures.within told) (c.in-Ok.ensures.opened told).can_open
-    (subst (UndoneIfOpen old) (sym c.print_pairs.ensures.history) (c.in-Ok.ensures.left told)) c.print_pairs.ensures.ends
+    opened_print c.args.limit old (g.D.Disk.history c.print_opened.new.disk) (ending_of c.print_opened.result) (c.in-Ok.ensures.within told) (c.in-Ok.ensures.opened told).can_open
+    (subst (UndoneIfOpen old) (sym c.print_opened.ensures.history) (c.in-Ok.ensures.left told)) c.print_opened.ensures.ends
 
 pub returns-in-Ok-clause-began : goal.returns-in-Ok-clause-began
 returns-in-Ok-clause-began g c told heard =
     let old = g.D.Disk.history c.args.disk.now in
     let opened = seen (g.D.Disk.history c.open_below.new.disk) in
-    began_as (StandsBefore (pairs_text c.args.listing opened)) (PrintText c.args.listing (Some old)) (g.K.Sink.written c.args.output.now) (g.K.Sink.written c.print_pairs.new.output) c.print_pairs.result
-    (λ e text stands. subst (λ img. StandsBefore (pairs_text c.args.listing img) e text) (c.in-Ok.ensures.reads told) stands) (c.print_pairs.ensures.began told heard)
+    began_as (StandsBefore (printout_text c.args.printout opened)) (PrintText c.args.printout (Some old)) (g.K.Sink.written c.args.output.now) (g.K.Sink.written c.print_opened.new.output) c.print_opened.result
+    (λ e text stands. subst (λ img. StandsBefore (printout_text c.args.printout img) e text) (c.in-Ok.ensures.reads told) stands) (c.print_opened.ensures.began told heard)
 
 -- the opening halted
 pub returns-in-Err-clause-left : goal.returns-in-Err-clause-left
@@ -35,14 +34,14 @@ returns-in-Err-clause-left g c told =
 pub returns-in-Err-clause-began : goal.returns-in-Err-clause-began
 returns-in-Err-clause-began g c told heard =
     let old = g.D.Disk.history c.args.disk.now in
-    let text = pairs_text c.args.listing (opened_bytes (seen old)) in
-    nothing (PrintText c.args.listing (Some old)) c.from.result (g.K.Sink.written c.args.output.now) (subst (λ e. StandsBefore text e []) (sym c.from.ensures) (halted_stands text c.in-Err.halt))
+    let text = printout_text c.args.printout (opened_bytes (seen old)) in
+    nothing (PrintText c.args.printout (Some old)) c.from.result (g.K.Sink.written c.args.output.now) (subst (λ e. StandsBefore text e []) (sym c.from.ensures) (halted_stands text c.in-Err.halt))
 
 -- what logs heard of it
 pub returns-in-Ok-clause-heard : goal.returns-in-Ok-clause-heard
 returns-in-Ok-clause-heard g c told =
-    opened_alone (opened_bytes (seen (g.D.Disk.history c.args.disk.now))) (BelowHeard c.args.limit (seen (g.D.Disk.history c.args.disk.now))) (ending_of c.print_pairs.result) c.in-Ok.opened (g.L.Logs.logs c.args.logs.now) (g.L.Logs.logs c.open_below.new.logs) (c.in-Ok.ensures.opened told).counted (c.in-Ok.ensures.heard told)
-    (print_unlogged (ending_of c.print_pairs.result) c.print_pairs.ensures.ends)
+    opened_alone (opened_bytes (seen (g.D.Disk.history c.args.disk.now))) (BelowHeard c.args.limit (seen (g.D.Disk.history c.args.disk.now))) (ending_of c.print_opened.result) c.in-Ok.opened (g.L.Logs.logs c.args.logs.now) (g.L.Logs.logs c.open_below.new.logs) (c.in-Ok.ensures.opened told).counted (c.in-Ok.ensures.heard told)
+    (print_unlogged (ending_of c.print_opened.result) c.print_opened.ensures.ends)
 
 pub returns-in-Err-clause-heard : goal.returns-in-Err-clause-heard
 returns-in-Err-clause-heard g c told =

@@ -26,7 +26,7 @@ there g c told = held_there (g.F.Files.held c.args.files.now c.args.name.now) (b
 pub returns-in-Ok-clause-cause : goal.returns-in-Ok-clause-cause
 returns-in-Ok-clause-cause g c told =
     let e = ending_of c.print_on_disk-printed.result in
-    print_cause c.args.listing c.args.limit c.args.name.now (g.F.Files.held c.args.files.now c.args.name.now) (g.F.D.Disk.history c.in-Ok.disk) (there g ((goal.at.returns-in-Ok-clause-cause g c).After-give) told)
+    print_cause c.args.printout c.args.limit c.args.name.now (g.F.Files.held c.args.files.now c.args.name.now) (g.F.D.Disk.history c.in-Ok.disk) (there g ((goal.at.returns-in-Ok-clause-cause g c).After-give) told)
     (g.F.Files.faults c.args.files.now) (g.F.Files.faults c.give.new.self) (g.F.D.Disk.history c.print_on_disk-printed.new.disk) e (c.print_on_disk-printed.ensures.left told)
     (files_counted (g.F.Files.faults c.args.files.now) (g.F.Files.faults c.take.new.self) (g.F.Files.faults c.give.new.self) (g.F.D.Disk.faults c.in-Ok.disk) (g.F.D.Disk.faults c.print_on_disk-printed.new.disk) e
     c.in-Ok.ensures.cause.done c.in-Ok.ensures.disk_faults c.print_on_disk-printed.ensures.counted c.give.ensures.sound c.give.ensures.faulty c.give.ensures.faults)
@@ -44,7 +44,7 @@ returns-in-Ok-clause-began g c both =
 -- the file wasn't taken
 pub returns-in-Err-clause-cause : goal.returns-in-Err-clause-cause
 returns-in-Err-clause-cause g c told =
-    untaken_cause (Print c.args.listing c.args.limit) c.args.name.now (g.F.Files.held c.args.files.now c.args.name.now) _ _ refl c.in-Err.refusal _
+    untaken_cause (Print c.args.printout c.args.limit) c.args.name.now (g.F.Files.held c.args.files.now c.args.name.now) _ _ refl c.in-Err.refusal _
     (λ is. ((c.in-Err.ensures.missing told).0 (ap Err is)).0) (λ is. not_new (c.in-Err.ensures.there_how (ap Err is)))
     (λ is. c.in-Err.ensures.cause.failed is) c.untaken.ensures
 
@@ -56,7 +56,7 @@ returns-in-Err-clause-left g c told =
 pub returns-in-Err-clause-began : goal.returns-in-Err-clause-began
 returns-in-Err-clause-began g c =
     let held = g.F.Files.held c.args.files.now c.args.name.now in
-    λ both. nothing (PrintText c.args.listing held) c.untaken.result (g.K.Sink.written c.args.output.now) (untaken_print_text c.args.listing held c.args.name.now c.in-Err.refusal c.untaken.result c.untaken.ensures)
+    λ both. nothing (PrintText c.args.printout held) c.untaken.result (g.K.Sink.written c.args.output.now) (untaken_print_text c.args.printout held c.args.name.now c.in-Err.refusal c.untaken.result c.untaken.ensures)
 
 -- what logs heard of it
 pub returns-in-Ok-clause-heard : goal.returns-in-Ok-clause-heard
