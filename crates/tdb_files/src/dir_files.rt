@@ -6,6 +6,7 @@ ghost use Rattle.tdb_disk.specs.Names.{SameAll, SameBut};
 use crate::faults::Faults;
 use crate::file_disk::FileDisk;
 use crate::file_fault::FileFault;
+use crate::finding::{Cause, Finding};
 use crate::identity::Identity;
 use crate::manner::Manner;
 use crate::opening::{Making, Refusal, open};
@@ -43,9 +44,8 @@ pub struct DirFiles {
     /// another run which makes the same copy waits until it is renamed.
     named: Option<(String, FileDisk)>,
 
-    /// The file that was there and was given back last, but for those of which a copy was made, and how it was found,
-    /// or as this run left it.
-    left: Option<(String, Stamp)>,
+    /// The file that was there and was given back last, but for those of which a copy was made.
+    left: Option<Left>,
 
     /// The name that was removed last.
     removed: Option<String>,
@@ -53,8 +53,23 @@ pub struct DirFiles {
     /// What begins where a new file gets none.
     silence: Option<Silence>,
 
+    /// For which fault a file was refused.
+    finding: Option<Finding>,
+
     /// Where a person is told what is read and written.
     progress: Option<Progress>,
+}
+
+/// A file that was given back.
+#[derive(Drop)]
+struct Left {
+    name: String,
+
+    /// How it was found, or as this run left it.
+    stamp: Stamp,
+
+    /// Why it was refused, if it was.
+    cause: Cause,
 }
 
 /// Whose permissions a copy has that is made once this file is taken.
@@ -89,6 +104,7 @@ impl DirFiles {
             left: None,
             removed: None,
             silence: None,
+            finding: None,
             progress: None,
         }
     }
@@ -116,6 +132,18 @@ impl DirFiles {
     {
         DirFiles {
             silence: Some(silence),
+            ..self
+        }
+    }
+
+    /// The same files, which are told by this for which fault a file was refused. Of one that is replaced, and was
+    /// refused for none, it is said that its header was.
+    pub fn with_finding(self, finding: Finding) -> DirFiles
+        ensures taken { (name : List ℕ) → name_is_taken result name ≡ name_is_taken self name }
+        ensures faults { dir_faults result ≡ dir_faults self }
+    {
+        DirFiles {
+            finding: Some(finding),
             ..self
         }
     }
@@ -194,29 +222,34 @@ impl DirFiles {
         }
     }
 
-    /// The file at a name may be replaced: it is as this run found or left it, if it had it.
-    fn check_left(&self, name: &str) -> Result<(), Reason> {
+    /// The file at a name may be replaced: it is as this run found or left it, if it had it. Why it was refused.
+    fn check_left(&self, name: &str) -> Result<Cause, Reason> {
         match &self.left {
-            Some((left, stamp)) if left.as_str() == name => {
-                if Stamp::of(&fs::metadata(&self.rt, name)?) == *stamp {
-                    Ok(())
+            Some(left) if left.name.as_str() == name => {
+                if Stamp::of(&fs::metadata(&self.rt, name)?) == left.stamp {
+                    Ok(left.cause)
                 } else {
                     Err(Reason::Changed)
                 }
             }
-            _ => Ok(()),
+            _ => Ok(Cause::Unknown),
         }
     }
 
-    /// Notes how a file was found, or as this run left it, that is given back, unless a copy was made of it.
+    /// Notes how a file was found that is given back, or as this run left it, and why it was refused, unless a copy was
+    /// made of it.
     fn note_left(&mut self, disk: &FileDisk, name: Option<String>)
         ensures { self.new ≡ record self.old { left = self.new.left } }
     {
+        let cause = match &self.finding {
+            Some(finding) => finding.take(),
+            None => Cause::Unknown,
+        };
         if self.named.is_none()
             && let Some(name) = name
             && let Some(stamp) = disk.stamp()
         {
-            self.left = Some((name, stamp));
+            self.left = Some(Left { name, stamp, cause });
         }
     }
 
@@ -224,8 +257,8 @@ impl DirFiles {
     fn replace(&self, from: &str, to: &str) -> Result<(), Reason> {
         self.check_moved(from)?;
         check_replaced(&self.rt, from, to, self.manner)?;
-        self.check_left(to)?;
-        replace(&self.rt, from, to, self.manner)
+        let cause = self.check_left(to)?;
+        replace(&self.rt, from, to, self.manner, cause)
     }
 
     /// Gives a new file its name, where it is whole, and else removes it. Of another file it notes how it is.

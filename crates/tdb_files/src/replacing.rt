@@ -1,5 +1,6 @@
 //! How a file gets another name, also one that a file has already.
 
+use crate::finding::Cause;
 use crate::folder::sync_folder;
 use crate::holder::Holder;
 use crate::identity::Identity;
@@ -110,15 +111,16 @@ fn keep_as(rt: &HostRuntime, name: &str, kept: &str) -> io::Result<()> {
     }
 }
 
-/// Keeps a file that is replaced under the first free one of its names for that, and says so on standard error.
-fn keep_replaced(rt: &HostRuntime, name: &str) -> io::Result<()> {
+/// Keeps a file that is replaced under the first free one of its names for that, and says so on standard error, and why
+/// it was refused.
+fn keep_replaced(rt: &HostRuntime, name: &str, cause: Cause) -> io::Result<()> {
     for number in 0..MOST_REFUSED {
         let kept = refused_name(rt, name, number)?;
         match keep_as(rt, name, &kept) {
             Err(error) if error.kind() == io::ErrorKind::AlreadyExists => {}
             Err(error) => return Err(error),
             Ok(()) => {
-                let _ = eprintln!(rt; "tdb: {name}: was refused, and is kept as {kept}");
+                let _ = eprintln!(rt; "tdb: {name}: {cause}, and is kept as {kept}");
                 return Ok(());
             }
         }
@@ -127,22 +129,23 @@ fn keep_replaced(rt: &HostRuntime, name: &str) -> io::Result<()> {
 }
 
 /// Gives the file at `from` the name `to`. A regular file that is replaced passes its permissions, its group and its
-/// owner on, as far as the system allows it, and one that is to be kept stays under another name. Where `to` is a link,
-/// that is replaced or kept, and the file to which it leads stays as it is. The folder of the new name is synced then,
-/// so that the name is on the medium; a folder that may not be opened, or whose file system can't sync it, is left to
-/// the system. Where nothing is at `from`, nothing is done.
+/// owner on, as far as the system allows it, and one that is to be kept, which was refused for this cause, stays under
+/// another name. Where `to` is a link, that is replaced or kept, and the file to which it leads stays as it is. The
+/// folder of the new name is synced then, so that the name is on the medium; a folder that may not be opened, or whose
+/// file system can't sync it, is left to the system. Where nothing is at `from`, nothing is done.
 pub(crate) fn replace(
     rt: &HostRuntime,
     from: &str,
     to: &str,
     manner: Manner,
+    cause: Cause,
 ) -> Result<(), Reason> {
     if is_free(rt, from)? {
         return Ok(());
     }
     if let Some(replaced) = find_replaced(rt, from, to) {
         if manner.keeps_replaced {
-            keep_replaced(rt, to)?;
+            keep_replaced(rt, to, cause)?;
         }
         copy_access(rt, from, Access::of(&replaced));
     }
