@@ -262,7 +262,8 @@ fn raise_new(file: File) -> io::Result<(File, Metadata)> {
 }
 
 /// Makes a file where nothing has the name, not even a link. Only its owner may read and write it, whatever the process
-/// takes away from new files. It gets its name once it is given back; after an Err nothing is left.
+/// takes away from new files. It gets its name once it is given back; after an Err nothing is left, nor a second
+/// name that a run which was killed left of the file that is there.
 fn make_new(
     rt: &HostRuntime,
     name: &str,
@@ -278,7 +279,13 @@ fn make_new(
     let Ok(part) = Part::of(rt.alloc(), name, making.source) else {
         return Err(Refusal::Memory);
     };
-    let file = make_part(rt, &part, name, manner, making.is_anew)?;
+    let file = match make_part(rt, &part, name, manner, making.is_anew) {
+        Ok(file) => file,
+        Err(refusal) => {
+            part.remove_second(rt, name);
+            return Err(refusal);
+        }
+    };
     match raise_new(file) {
         Ok((file, found)) => {
             let stamp = Stamp::of(&found);

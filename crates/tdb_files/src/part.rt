@@ -58,6 +58,11 @@ pub(crate) fn is_at(rt: &HostRuntime, path: &str, identity: Identity) -> io::Res
     }
 }
 
+/// The names are those of one file.
+pub(crate) fn is_same(rt: &HostRuntime, one: &str, other: &str) -> io::Result<bool> {
+    is_at(rt, other, Identity::of(&fs::symlink_metadata(rt, one)?))
+}
+
 /// A regular file that may be read, open. Nothing else is opened: to open a pipe might wait. An Err where nothing is at
 /// the path, or the system doesn't tell.
 fn open_regular(rt: &HostRuntime, path: &str) -> io::Result<Option<File>> {
@@ -135,6 +140,14 @@ impl Part {
             Ok(_) => Err(Reason::NotRegular),
             Err(error) if is_missing(&error) => Ok(()),
             Err(error) => Err(error.into()),
+        }
+    }
+
+    /// Removes the name where it is a second one of the file of this name: what is left of a run that was killed while
+    /// it gave the file its name. Where a run has the file, or the system refuses it, it stays.
+    pub(crate) fn remove_second(&self, rt: &HostRuntime, name: &str) {
+        if is_same(rt, name, &self.path).unwrap_or(false) {
+            let _ = remove_unused(rt, &self.path, 0);
         }
     }
 

@@ -6,7 +6,7 @@ use crate::holder::Holder;
 use crate::identity::Identity;
 use crate::manner::Manner;
 use crate::others::{find_other, find_part_locker};
-use crate::part::{has_no_links, is_free};
+use crate::part::{has_no_links, is_free, is_same};
 use crate::reason::Reason;
 use std::fs::{self, Metadata, Permissions};
 use std::os::unix::fs::{MetadataExt, PermissionsExt, chown};
@@ -102,11 +102,17 @@ fn refused_name(rt: &HostRuntime, name: &str, number: u32) -> io::Result<String>
     Ok(kept)
 }
 
-/// Gives a file that is replaced this name too, where nothing has it. Where the file system has no hard links the file
-/// gets it in place of its own.
+/// The name is another file's.
+fn is_taken(error: &io::Error) -> bool {
+    error.kind() == io::ErrorKind::AlreadyExists
+}
+
+/// Gives a file that is replaced this name too, where nothing has it. A run that was killed may have given it the name
+/// already. Where the file system has no hard links the file gets it in place of its own.
 fn keep_as(rt: &HostRuntime, name: &str, kept: &str) -> io::Result<()> {
     match fs::hard_link(rt, name, kept) {
         Err(error) if has_no_links(&error) && !fs::exists(rt, kept)? => fs::rename(rt, name, kept),
+        Err(error) if is_taken(&error) && is_same(rt, name, kept)? => Ok(()),
         answer => answer,
     }
 }
@@ -117,7 +123,7 @@ fn keep_replaced(rt: &HostRuntime, name: &str, cause: Cause) -> io::Result<()> {
     for number in 0..MOST_REFUSED {
         let kept = refused_name(rt, name, number)?;
         match keep_as(rt, name, &kept) {
-            Err(error) if error.kind() == io::ErrorKind::AlreadyExists => {}
+            Err(error) if is_taken(&error) => {}
             Err(error) => return Err(error),
             Ok(()) => {
                 let _ = eprintln!(rt; "tdb: {name}: {cause}, and is kept as {kept}");

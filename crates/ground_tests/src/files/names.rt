@@ -90,16 +90,20 @@ pub(crate) fn failing_rename(rt: HostRuntime) -> Option<&'static str> {
     None
 }
 
-/// The files that are laid, one after the other, where each replaces the one before, and what is kept of the first two.
-static REPLACED: [&'static [u8]; 3] = [b"one", b"two", b"three"];
+/// The files that are laid, one after the other, where each replaces the one before, and what is kept of the first two;
+/// and whether a run that was killed has kept the one before already.
+static REPLACED: [(&'static [u8], bool); 3] = [(b"one", false), (b"two", true), (b"three", false)];
 
 const KEPT: &str = "tdb_files_test/to.refused";
 
 const KEPT_NEXT: &str = "tdb_files_test/to.refused.1";
 
-/// Lays a file, and says whether it takes the name of the one before, which is to be kept.
-fn replaces(rt: HostRuntime, content: &'static [u8]) -> io::Result<bool> {
+/// Lays a file, and says whether it takes the name of the one before, which is to be kept, or is so already.
+fn replaces(rt: HostRuntime, content: &'static [u8], is_kept: bool) -> io::Result<bool> {
     lay(rt, FROM, content, 0o600)?;
+    if is_kept {
+        fs::hard_link(&rt, TO, KEPT)?;
+    }
     let mut files = DirFiles::new(rt).with_manner(Manner {
         keeps_replaced: true,
         ..Manner::new()
@@ -110,8 +114,8 @@ fn replaces(rt: HostRuntime, content: &'static [u8]) -> io::Result<bool> {
 /// Whether each file that is replaced is kept under the next of its names.
 fn keeps(rt: HostRuntime) -> io::Result<bool> {
     folder::make(rt)?;
-    for content in &REPLACED {
-        if !replaces(rt, *content)? {
+    for (content, is_kept) in &REPLACED {
+        if !replaces(rt, *content, *is_kept)? {
             return Ok(false);
         }
     }

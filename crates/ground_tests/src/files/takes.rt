@@ -78,7 +78,7 @@ struct Takes {
 }
 
 /// Each name is taken after those before.
-static TAKES: [(&'static str, Takes); 8] = [
+static TAKES: [(&'static str, Takes); 11] = [
     (
         "the working folder",
         Takes {
@@ -151,11 +151,42 @@ static TAKES: [(&'static str, Takes); 8] = [
             new: There,
         },
     ),
+    (
+        "another file at the name of its part, which stays",
+        Takes {
+            name: "tdb_files_test/kept.tdb-new",
+            existing: Taken,
+            read_only: Taken,
+            new: There,
+        },
+    ),
+    (
+        "a file with its first name beside it, which a run left that was killed",
+        Takes {
+            name: "tdb_files_test/double",
+            existing: Taken,
+            read_only: Taken,
+            new: There,
+        },
+    ),
+    (
+        "its first name, which was removed",
+        Takes {
+            name: "tdb_files_test/double.tdb-new",
+            existing: Missing,
+            read_only: Missing,
+            new: Taken,
+        },
+    ),
 ];
 
 /// Lays what is there before the names are taken.
 fn lay_names(rt: HostRuntime) -> io::Result<()> {
     lay(rt, KEPT, b"kept", 0o444)?;
+    lay(rt, "tdb_files_test/kept.tdb-new", b"part", 0o600)?;
+    let double = "tdb_files_test/double";
+    lay(rt, double, b"double", 0o600)?;
+    fs::hard_link(&rt, double, "tdb_files_test/double.tdb-new")?;
     symlink(&rt, "nowhere", "tdb_files_test/link")
 }
 
