@@ -84,6 +84,11 @@ def replaces(_held):
     os.rename("other", "f.tdb")
 
 
+def moves_away(_held):
+    os.rename("f.tdb", "other")
+    shutil.copy("other", "f.tdb")
+
+
 def removes(_held):
     os.unlink("f.tdb")
 
@@ -165,6 +170,7 @@ CHANGES = {
     "wiped": (wipes, False),
     "cut": (cuts, False),
     "replaced": (replaces, False),
+    "moved away": (moves_away, False),
     "removed": (removes, False),
 }
 for what, (change, is_held) in CHANGES.items():

@@ -2,9 +2,9 @@
 ghost use Rattle.std.specs.Prelude.{◌≡◌, IsErr, IsSome};
 
 use crate::locks::{LockKind, lock};
-use crate::reason::Reason;
+use crate::reason::{Reason, is_missing};
 use crate::stamp::Stamp;
-use std::fs::File;
+use std::fs::{self, File};
 use std::time::{Duration, Instant};
 
 /// A file is looked at before a change that comes so long after the last one, in microseconds.
@@ -18,9 +18,11 @@ const NOTE_PAUSE: u64 = 100;
 
 /// The right to change an open file, and how this run left it. Where the file moved without this run, or its lock can't
 /// be had, it isn't changed from there on.
-#[derive(Clone, Copy)]
+#[derive(Drop)]
 pub(crate) struct Guard {
     rt: HostRuntime,
+    /// The name by which the file is looked at; None where it hasn't got it yet, or there was no memory for it.
+    name: Option<String>,
     /// Why the file may not be changed; None where it may.
     unwritable: Option<Reason>,
     /// The lock that the file has, and how many seconds one for changes is waited for.
@@ -50,9 +52,10 @@ fn has_passed(from: Option<Instant>, to: Option<Instant>, span: Duration) -> boo
 impl Guard {
     ghost use Rattle.tdb_files.specs.Guard.{IsBarred};
 
-    /// A file as it was found, with this lock.
+    /// A file as it was found, with this lock, at this name if it has it.
     pub(crate) fn new(
         rt: HostRuntime,
+        name: Option<String>,
         stamp: Stamp,
         unwritable: Option<Reason>,
         kind: LockKind,
@@ -62,6 +65,7 @@ impl Guard {
     {
         Guard {
             rt,
+            name,
             unwritable,
             kind,
             seconds,
@@ -89,9 +93,22 @@ impl Guard {
         }
     }
 
-    /// The file is as this run left it. Costs a call of the system.
+    /// What is at the name of the file now, or what is open of one without a name.
+    fn find(&self, file: &File) -> Result<Stamp, Reason> {
+        let found = match &self.name {
+            Some(name) => fs::metadata(&self.rt, name),
+            None => file.metadata(),
+        };
+        match found {
+            Ok(found) => Ok(Stamp::of(&found)),
+            Err(error) if is_missing(&error) => Err(Reason::Changed),
+            Err(error) => Err(error.into()),
+        }
+    }
+
+    /// The file is as this run left it, and its name leads to it. Costs a call of the system.
     fn look(&self, file: &File) -> Result<(), Reason> {
-        let found = Stamp::of(&file.metadata()?);
+        let found = self.find(file)?;
         let is_same = if self.is_exact {
             found == self.stamp
         } else {

@@ -169,7 +169,9 @@ fn open_existing(
     }
     let unwritable = bar(unwritable, other, manner.is_shared);
     let found = file.metadata()?;
-    let guard = Guard::new(*rt, Stamp::of(&found), unwritable, kind, manner.seconds);
+    let name = String::from_str(rt.alloc(), name).ok();
+    let stamp = Stamp::of(&found);
+    let guard = Guard::new(*rt, name, stamp, unwritable, kind, manner.seconds);
     Ok(FileDisk::new(file, identity, guard, None, found.len()))
 }
 
@@ -289,7 +291,7 @@ fn make_new(
     match raise_new(file) {
         Ok((file, found)) => {
             let stamp = Stamp::of(&found);
-            let guard = Guard::new(*rt, stamp, None, LockKind::Exclusive, manner.seconds);
+            let guard = Guard::new(*rt, None, stamp, None, LockKind::Exclusive, manner.seconds);
             Ok(FileDisk::new(file, Identity::of(&found), guard, Some(part), 0))
         }
         Err(error) => {

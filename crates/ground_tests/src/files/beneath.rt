@@ -23,17 +23,22 @@ enum Change {
     Cut,
     Link,
     Replace,
+    MoveAway,
     Remove,
 }
 
 /// What the other program does, and whether the file is changed by this run then.
-static CHANGES: [(&'static str, (Change, bool)); 7] = [
+static CHANGES: [(&'static str, (Change, bool)); 8] = [
     ("nothing", (Change::Nothing, true)),
     ("a read", (Change::Read, true)),
     ("a write of as many bytes", (Change::Write, false)),
     ("a cut", (Change::Cut, false)),
     ("another name", (Change::Link, false)),
     ("another file at the name", (Change::Replace, false)),
+    (
+        "another name, and another file at its own",
+        (Change::MoveAway, false),
+    ),
     ("no file at the name", (Change::Remove, false)),
 ];
 
@@ -52,6 +57,10 @@ fn make_change(rt: HostRuntime, change: Change) -> io::Result<()> {
         Change::Replace => {
             lay(rt, OTHER, b"12345678", 0o600)?;
             fs::rename(&rt, OTHER, FILE)
+        }
+        Change::MoveAway => {
+            fs::rename(&rt, FILE, OTHER)?;
+            lay(rt, FILE, b"12345678", 0o600)
         }
         Change::Remove => fs::remove_file(&rt, FILE),
     }
