@@ -1,7 +1,8 @@
-//! What a person is told on standard error who asks what the program does, beside the usage line.
+//! What a person is told on standard error beside the usage line: what the program does, or which word is no command.
 
+use std::alloc::Global;
 use tdb_files::OutSink;
-use tdb_terminal::write_page;
+use tdb_terminal::{Answer, answer_to, write_page};
 use tdb_top::Status;
 
 /// The version of the program, and the toolchain with which it is proved.
@@ -33,6 +34,9 @@ tdb tool FILE                   a session: the lines of standard input are comma
 tdb tool FILE create [SIZE [default|jenkins [little|big]]]   a new file
 tdb tool FILE info|list|free    what the file holds in numbers, its records, its free records
 ";
+
+/// The names of the commands.
+const COMMANDS: [&str; 7] = ["tool", "dump", "restore", "backup", "turns", "gen", "help"];
 
 /// What a person asks for.
 #[derive(Clone, Copy, Debug, PartialEq, Eq)]
@@ -71,7 +75,40 @@ fn asked_by(words: &[String]) -> Option<Asked> {
     }
 }
 
-/// Tells a person what they asked for, where a run of the words ended so. What can't be written is left out.
+/// Whether a word behind `tool FILE` begins as no command does. An option isn't looked into.
+fn is_no_tool(alloc: Global, word: &str) -> bool {
+    !word.starts_with('-')
+        && word != "create"
+        && matches!(answer_to(alloc, word.as_bytes()), Ok(Answer::Unknown(_)))
+}
+
+/// The word that is no command and stands where one should, as far as that can be told without the options.
+fn unknown_of(alloc: Global, words: &[String]) -> Option<&str> {
+    let first = words.first()?.as_str();
+    if !COMMANDS.contains(&first) {
+        return Some(first);
+    }
+    let file = words.get(1)?.as_str();
+    let third = words.get(2)?.as_str();
+    (first == "tool" && !file.starts_with('-') && is_no_tool(alloc, third)).then_some(third)
+}
+
+/// Says to a person that words ask for nothing, which of them is no command, and which page tells the commands.
+fn tell_unasked(rt: &HostRuntime, words: &[String]) {
+    let is_tool = words.first().is_some_and(|word| word.as_str() == "tool");
+    let page = if is_tool {
+        "tdb tool --help"
+    } else {
+        "tdb --help"
+    };
+    let _ = match unknown_of(rt.alloc(), words) {
+        Some(word) => eprintln!(rt; "tdb: {word} is no command: see {page}"),
+        None => eprintln!(rt; "tdb: the words ask for nothing: see {page}"),
+    };
+}
+
+/// Tells a person what they asked for, or that they asked for nothing, where a run of the words ended so. What can't be
+/// written is left out.
 pub(crate) fn tell_asked(rt: &HostRuntime, status: Status, words: &[String]) {
     if status != USAGE {
         return;
@@ -84,6 +121,9 @@ pub(crate) fn tell_asked(rt: &HostRuntime, status: Status, words: &[String]) {
             write_page(rt.alloc(), &mut OutSink::new(rt.stderr()));
             Ok(())
         }
-        None => Ok(()),
+        None => {
+            tell_unasked(rt, words);
+            Ok(())
+        }
     };
 }
