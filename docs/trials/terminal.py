@@ -70,7 +70,18 @@ HELPS = [
     (["tool", "--help"], ["show KEY", "store KEY DATA", "transaction_start", "quit", "man tdb-tool"]),
     (["--version"], ["tdb 0.1", "rattle-kit"]),
 ]
-SILENT = [["tool"], ["frobnicate", "x"], ["tool", "f.tdb", "shows", "a"], ["--version", "x"], ["dump", "-x", "f.tdb"]]
+
+# Words that ask for nothing, and what is told of them.
+UNASKED = [
+    (["tool"], b"tdb: the words ask for nothing: see tdb tool --help\n"),
+    (["frobnicate", "x"], b"tdb: frobnicate is no command: see tdb --help\n"),
+    (["tool", "f.tdb", "shows", "a"], b"tdb: shows is no command: see tdb tool --help\n"),
+    (["tool", "f.tdb", "show"], b"tdb: the words ask for nothing: see tdb tool --help\n"),
+    (["tool", "f.tdb", "create", "x"], b"tdb: the words ask for nothing: see tdb tool --help\n"),
+    (["tool", "--limit", "4096", "f.tdb", "shows"], b"tdb: the words ask for nothing: see tdb tool --help\n"),
+    (["--version", "x"], b"tdb: --version is no command: see tdb --help\n"),
+    (["dump", "-x", "f.tdb"], b"tdb: the words ask for nothing: see tdb --help\n"),
+]
 
 
 def no_echo(slave):
@@ -167,11 +178,11 @@ def help_differences(program, words, wanted):
     return found + [f"{name}: {text!r} isn't told" for text in missing]
 
 
-def silent_differences(program, words):
-    """The differences of words that ask for nothing, of which nothing is told."""
+def unasked_differences(program, words, told):
+    """The differences of words that ask for nothing, of which this is told."""
     with tempfile.TemporaryDirectory() as folder:
         found = run(program, folder, words)
-    return differences(" ".join(["tdb", *words]), found, (USAGE, b"", 2))
+    return differences(" ".join(["tdb", *words]), found, (USAGE, told, 2))
 
 
 def page_differences(program):
@@ -192,7 +203,7 @@ def main():
     sessions = {"empty": EMPTY, "mistakes": MISTAKES, "ended": ENDED, "cut": CUT, "ahead": AHEAD}
     results = [session_differences(program, name, rows) for name, rows in sessions.items()]
     results += [help_differences(program, words, wanted) for words, wanted in HELPS]
-    results += [silent_differences(program, words) for words in SILENT]
+    results += [unasked_differences(program, words, told) for words, told in UNASKED]
     results += [page_differences(program), piped_differences(program)]
     for line in sum(results, []):
         print(line)
