@@ -9,7 +9,7 @@ use Rattle.tdb_open.specs.declared.halt.Fault.TheVariants as F
 use Rattle.tdb_space.specs.Form.{form_of}
 use Rattle.tdb_space.specs.Pairs.{map_of}
 use Rattle.tdb_top.specs.declared.ending.Reply.{Reply}
-use Rattle.tdb_top.specs.declared.ending.Reply.TheVariants.{Done, KeyThere}
+use Rattle.tdb_top.specs.declared.ending.Reply.TheVariants.{KeyThere}
 use Rattle.tdb_top.specs.Acts.{Acted}
 use Rattle.tdb_top.specs.Commands.Insert.{insert_reply}
 use Rattle.tdb_top.specs.Commands.Store.{store_reply}

@@ -1,4 +1,4 @@
-use Rattle.std.proofs.Common.{◌≡◌, ◌≤◌, true, List, ℕ, Result, Ok, Err, ◌∙◌, ap, refl, subst, arith}
+use Rattle.std.proofs.Common.{◌≡◌, true, List, ℕ, Result, Ok, Err, ap, refl, subst, arith}
 use Rattle.tdb_disk.specs.Count.{HasCauseOf}
 use Rattle.tdb_disk.specs.History.{seen}
 use Rattle.tdb_words.specs.declared.word.Order.TheVariants.{Little}
@@ -6,7 +6,6 @@ use Rattle.tdb_words.specs.declared.hash.HashKind.TheVariants.{Old}
 use Rattle.tdb_space.specs.Form.{Form, form_in}
 use Rattle.tdb_commands.specs.declared.options.Options.{Options}
 use Rattle.tdb_gen.specs.Generated.{GeneratedOver}
-use Rattle.tdb_gen.specs.Taking.{UnlessIo}
 use Rattle.tdb_gen.specs.declared.fault.GenFault.{GenFault}
 use Rattle.tdb_gen.specs.declared.fault.GenFault.TheVariants.{Io}
 use Rattle.tdb_gen.specs.declared.summary.Summary.{Summary}

@@ -1,6 +1,6 @@
-use Rattle.std.proofs.Common.{◌≡◌, ℕ, Bool, true, false, List, [], None, refl, sym, ap, subst}
+use Rattle.std.proofs.Common.{◌≡◌, ℕ, Bool, true, false, List, [], None, refl, sym, subst}
 use Rattle.std.specs.Prelude.{IsSome, MatchBool}
-use Rattle.tdb_disk.specs.History.{History, seen}
+use Rattle.tdb_disk.specs.History.{seen}
 use Rattle.tdb_cmdline.specs.declared.act.Verb.TheVariants.{Store}
 use Rattle.tdb_space.specs.Form.{Form, form_in, form_of}
 use Rattle.tdb_space.specs.Pairs.{map_of}

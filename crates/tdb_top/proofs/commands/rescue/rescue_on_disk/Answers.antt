@@ -1,4 +1,4 @@
-use Rattle.std.proofs.Common.{ℕ, List, [], Some, sym, subst, ap}
+use Rattle.std.proofs.Common.{ℕ, List, [], Some, sym, subst}
 use Rattle.tdb_disk.specs.History.{seen}
 use Rattle.tdb_space.specs.Form.{Form, form_in, form_of}
 use Rattle.tdb_rescue.specs.Text.{rescued_text}

@@ -1,4 +1,4 @@
-use Rattle.std.proofs.Common.{◌∙◌, [], Ok, Err, refl, sym, subst}
+use Rattle.std.proofs.Common.{◌∙◌, Ok, Err, refl, sym, subst}
 use Rattle.tdb_disk.specs.History.{seen}
 use Rattle.tdb_space.specs.Form.{Form}
 use Rattle.tdb_commands.specs.declared.options.Options.{Options}

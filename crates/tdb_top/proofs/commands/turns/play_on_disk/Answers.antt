@@ -1,15 +1,11 @@
-use Rattle.std.proofs.Common.{◌≡◌, ◌∙◌, ℕ, true, Ok, Err, refl, sym, ap, subst}
+use Rattle.std.proofs.Common.{◌≡◌, ◌∙◌, ℕ, true, Ok, refl, sym, subst}
 use Rattle.tdb_disk.specs.Count.{Rose}
 use Rattle.tdb_disk.specs.History.{seen}
 use Rattle.tdb_space.specs.Form.{Form, form_of}
 use Rattle.tdb_commands.specs.declared.options.Options.{Options}
 use Rattle.tdb_world.specs.Whole.{form_at, options_at}
 use Rattle.tdb_check.specs.Report.{Counted}
-use Rattle.tdb_top.specs.declared.ending.Ending.TheVariants.{Replied}
-use Rattle.tdb_top.specs.declared.ending.Reply.TheVariants.{Played}
 use Rattle.tdb_top.specs.Playing.{PlayedOver, PlayedOn, PlayedFile, file_unplayed, file_played}
-use Rattle.tdb_open.specs.Loading.{OpensToTurn}
-use Rattle.tdb_open.specs.Opening.{opened_bytes}
 use Rattle.tdb_top.specs.Stops.{StopsOfTurns}
 use Rattle.tdb_top.specs.Ending.{CountedIf}
 use Rattle.tdb_top.specs.Looks.{ending_of}
