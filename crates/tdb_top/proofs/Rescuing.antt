@@ -1,9 +1,9 @@
 -- What a rescue of a file gives, from what its parts gave.
-use Rattle.std.proofs.Common.{◌≡◌, ℕ, List, [], ◌++◌, Option, None, Some, take, refl, sym, ap, subst, inl, inr}
+use Rattle.std.proofs.Common.{◌≡◌, ℕ, List, [], Option, None, Some, refl, sym, ap, subst, inl, inr}
 use Rattle.tdb_disk.specs.History.{History, seen}
 use Rattle.tdb_disk.specs.declared.files.TakeRefusal.{TakeRefusal}
 use Rattle.tdb_space.specs.Form.{Form, form_of}
-use Rattle.tdb_rescue.specs.Text.{rescued_text, WroteFront}
+use Rattle.tdb_rescue.specs.Text.{rescued_text}
 use Rattle.tdb_cmdline.specs.declared.ask.Task.TheVariants.{Rescue}
 use Rattle.tdb_open.specs.declared.halt.Halt.{Halt}
 use Rattle.tdb_open.specs.declared.halt.Halt.TheVariants as H
@@ -14,10 +14,9 @@ use Rattle.tdb_top.specs.Commands.Rescue.{CanRescue, RescueHalts, RescueEnds, Re
 use Rattle.tdb_top.specs.Ending.{TaskDue, TaskCause, task_due, task_failed, task_wanting, CountedBy, Untaken, of_halt}
 use Rattle.tdb_top.proofs.Looking.{untaken_stands}
 
--- a front of the text was written, told of the same bytes and their form
-pub front_moved : (before now : List ℕ) (f g : Form) (a b : List ℕ) → f ≡ g → a ≡ b → WroteFront before (rescued_text f a) now → (n : ℕ) × (now ≡ before ++ take n (rescued_text g b))
-front_moved before now f g a b form same front =
-    (front.0, subst (λ (q : Form × List ℕ). now ≡ before ++ take front.0 (rescued_text q.0 q.1)) (λ j. (form j, same j)) front.2)
+-- what holds of bytes and a form holds of the same ones
+pub moved : (P : Form → List ℕ → Type 0) (f g : Form) (a b : List ℕ) → f ≡ g → a ≡ b → P f a → P g b
+moved P f g a b form same = subst (λ (q : Form × List ℕ). P q.0 q.1) (λ j. (form j, same j))
 
 -- the pairs were printed or not
 pub printed_rescue : (img : List ℕ) (e : Ending) → CanRescue img → PrintEnds e → RescueEnds img e
