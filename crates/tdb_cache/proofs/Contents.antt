@@ -1,19 +1,13 @@
 -- What a disk shows after the bytes that it lacks of a content are written to it.
-use Rattle.std.proofs.Common.{◌≡◌, Option, Some, ℕ, ◌+◌, ◌-◌, ◌<◌, ◌≤◌, List, ◌⊎◌, length, take, drop, min, inl, inr, sym, ◌∙◌, arith}
+use Rattle.std.proofs.Common.{◌≡◌, ℕ, ◌+◌, ◌-◌, ◌<◌, ◌≤◌, List, ◌⊎◌, length, take, drop, min, inl, inr, sym, ◌∙◌, arith}
 use Rattle.std.proofs.lemmas.Bool.{cases_lt}
 use Rattle.std.proofs.lemmas.Grind.{common_steps}
 use Rattle.std.proofs.lemmas.List.{places, same_lists}
-use Rattle.tdb_disk.specs.History.{History, grew, seen, Tried, TriedOver}
+use Rattle.tdb_disk.specs.History.{History, cut, grew, seen, Tried, TriedOver}
 use Rattle.tdb_disk.specs.Image.{overlay, padded}
 use Rattle.tdb_disk.proofs.Image.{length-overlay, overlay_above, overlay_below, padded_below, padded_in}
 use Rattle.tdb_cache.specs.Content.{content_bytes, IsWritten, SameWritten}
-use Rattle.tdb_cache.specs.WriteBehind.{view_of}
 use Rattle.tdb_cache.specs.declared.content.Content.{Content}
-
--- a content that is kept is what a read gives, up to the size
-pub view_of-kept : (kept : Option Content) (content : Content) (size : ℕ) (image : List ℕ) → kept ≡ Some content
-    → view_of kept size image ≡ take size (content_bytes content)
-view_of-kept kept content size image is = rw is
 
 -- the image is the front of the content where no byte is to be written
 pub image_if_written : (content : Content) (image : List ℕ) → SameWritten content image
@@ -100,4 +94,14 @@ SameWritten-grow content front old new to is long longer tried same = elim tried
     | inl below ↦ same at below written ∙ sym (padded_below (seen old) to at below)
     | inr behind ↦ rw is (padded_in front to at (omega (arith, long, behind)) ∙ sym (padded_in (seen old) to at behind))
   ])
+]
+
+-- and the bytes that aren't to be written are those of the file where it may have been cut
+pub SameWritten-shorter : (content : Content) (old new : History) (to : ℕ) → Tried (cut to) old new
+    → SameWritten content (seen old) → SameWritten content (seen new)
+SameWritten-shorter content old new to tried same = elim tried [
+  | inl unchanged ↦ rw unchanged same
+  | inr done ↦ rw done (λ at within written.
+      let before : at < length (seen old) = grind (arith, common_steps) in
+      let here = same at before written in grind (arith, places, here))
 ]

@@ -1,11 +1,10 @@
 -- What a contract sees of a disk that is written behind.
-use Rattle.std.specs.Prelude.{◌≡◌, ℕ, List, Bool, Option, Some, None, is_some, ◌⊎◌, length, take}
-use Rattle.tdb_disk.specs.History.{Event, applied, seen}
-use Rattle.tdb_disk.specs.Image.{overlay}
+use Rattle.std.specs.Prelude.{ℕ, List, Bool}
+use Rattle.tdb_disk.specs.History.{seen}
 use Rattle.tdb_disk.specs.declared.disk.Disk.{Ghosts}
-use Rattle.tdb_cache.specs.Content.{content_bytes}
-use Rattle.tdb_cache.specs.declared.content.Content.{Content}
+use Rattle.tdb_cache.specs.Kept.{is_nothing, is_whole, owed_by, view_of, HoldsRange}
 use Rattle.tdb_cache.specs.declared.write_behind.WriteBehind.{WriteBehind}
+pub use Rattle.tdb_cache.specs.View.{ViewTried, ViewTriedOver}
 
 -- the disk within
 abbrev pub behind_inner : {D : Type 0} {g : Ghosts D} → WriteBehind D g → D
@@ -17,21 +16,20 @@ behind_asked behind = behind.asked
 
 -- whether the content is kept
 abbrev pub keeps_content : {D : Type 0} {g : Ghosts D} → WriteBehind D g → Bool
-keeps_content behind = is_some behind.content
+keeps_content behind = is_whole behind.kept
 
--- the content up to the size of the file, if it is kept, and else the image
-abbrev pub view_of : Option Content → ℕ → List ℕ → List ℕ
-view_of None size image = image
-view_of (Some content) size image = take size (content_bytes content)
+-- whether each call is passed on
+abbrev pub passes_on : {D : Type 0} {g : Ghosts D} → WriteBehind D g → Bool
+passes_on behind = is_nothing behind.kept
 
 -- what a read gives
 abbrev pub behind_view : {D : Type 0} {g : Ghosts D} → WriteBehind D g → List ℕ
-behind_view {g = g} behind = view_of behind.content (g.size behind.inner) (seen (g.history behind.inner))
+behind_view {g = g} behind = view_of behind.kept (g.size behind.inner) (seen (g.history behind.inner))
 
--- what a read gives after a call that did this or, where it failed, maybe nothing
-abbrev pub ViewTried : Event → List ℕ → List ℕ → Type 0
-ViewTried event old new = (new ≡ old) ⊎ (new ≡ applied event old)
+-- how many calls at most write what the disk within lacks: one where the content is kept, and at most 8
+abbrev pub owed : {D : Type 0} {g : Ghosts D} → WriteBehind D g → ℕ
+owed behind = owed_by behind.kept
 
--- the same after a write that, where it failed, may have left other bytes in its range
-abbrev pub ViewTriedOver : ℕ → ℕ → List ℕ → List ℕ → Type 0
-ViewTriedOver at n old new = (new ≡ old) ⊎ ((bytes : List ℕ) × (length bytes ≡ n) × (new ≡ overlay old at bytes))
+-- each byte of a range is in memory
+abbrev pub HasInMemory : {D : Type 0} {g : Ghosts D} → WriteBehind D g → ℕ → ℕ → Type 0
+HasInMemory behind off len = HoldsRange behind.kept off len

@@ -25,6 +25,7 @@ const NOTHING: Stretch = Stretch { start: 0, end: 0 };
 /// file. It may be longer than the file; only its front counts then.
 #[derive(Drop)]
 pub struct Content {
+    alloc: Global,
     bytes: Vec<u8>,
     pending: Stretch,
     ghost short: { length bytes.items ≤ 1048576 },
@@ -38,9 +39,15 @@ impl Content {
         ensures { content_bytes result ≡ [] }
     {
         Content {
+            alloc,
             bytes: Vec::new(alloc),
             pending: NOTHING,
         }
+    }
+
+    /// Where its memory is from.
+    pub(crate) fn alloc(&self) -> Global {
+        self.alloc
     }
 
     /// Copies bytes of the content.

@@ -4,6 +4,8 @@
 mod blocks;
 mod cached;
 mod content;
+mod kept;
+mod pending;
 mod piece;
 mod write_behind;
 

@@ -117,8 +117,8 @@ pub(crate) fn failing_fault(alloc: Global) -> Result<Option<&'static str>, Alloc
     ]))
 }
 
-/// The rows of a disk that is written to, grows past the longest content, and is written to again.
-fn rows_past(d: &mut WriteBehind<MemDisk>) -> Result<[Row; 3], DiskFault>
+/// The rows of a disk that is written to, grows past the longest content, is written to again, and is synced.
+fn rows_past(d: &mut WriteBehind<MemDisk>) -> Result<[Row; 4], DiskFault>
     requires { memory_size (behind_inner d.old) ≡ 0 }
 {
     d.grow(8)?;
@@ -127,23 +127,26 @@ fn rows_past(d: &mut WriteBehind<MemDisk>) -> Result<[Row; 3], DiskFault>
     d.grow(1_048_577)?;
     let long = row(d)?;
     d.write(4, b"word")?;
-    Ok([short, long, row(d)?])
+    let written = row(d)?;
+    d.sync()?;
+    Ok([short, long, written, row(d)?])
 }
 
-/// What is otherwise where a long file is written at once.
+/// What is otherwise where what is written to a long file is gathered in blocks.
 pub(crate) fn failing_long_file(alloc: Global) -> Result<Option<&'static str>, AllocError> {
     let long = (*b"12345678", *b"12345678");
+    let gathered = (*b"1234word", *b"12345678");
     let last = (*b"1234word", *b"1234word");
     let mut behind = WriteBehind::of_empty(alloc, MemDisk::new(alloc, b"")?);
     let mut through = WriteBehind::through(MemDisk::new(alloc, b"")?);
     Ok(first_false(&[
         (
             "a file that gets long",
-            rows_past(&mut behind) == Ok([(*b"12345678", [0; 8]), long, last]),
+            rows_past(&mut behind) == Ok([(*b"12345678", [0; 8]), long, gathered, last]),
         ),
         (
             "a file that is long from the first",
-            rows_past(&mut through) == Ok([long, long, last]),
+            rows_past(&mut through) == Ok([long, long, last, last]),
         ),
     ]))
 }

@@ -31,6 +31,7 @@ loop-done-preserved c =
           c.after-piece.ensures.one_block room (was.sized (length image) sized) (was.shown image room sized shown);
       same = λ number.
           SameKept-patch c.loop-done.self c.patch.new.self piece.number piece.within bytes patched others number ∙ was.same number;
+      count = c.patch.ensures.count ∙ was.count;
     }
 
 pub returns-clause-shown : goal.returns-clause-shown
