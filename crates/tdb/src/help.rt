@@ -6,7 +6,7 @@ use tdb_terminal::{Answer, answer_to, write_page};
 use tdb_top::Status;
 
 /// The version of the program, and the toolchain with which it is proved.
-const VERSION: &str = "tdb 0.1, proved with rattle-kit-13f";
+const VERSION: &str = "tdb 0.1, proved with rattle-kit-13b";
 
 /// The status of words that ask for nothing.
 const USAGE: Status = Status(2);
@@ -34,6 +34,9 @@ tdb tool FILE                   a session: the lines of standard input are comma
 tdb tool FILE create [SIZE [default|jenkins [little|big]]]   a new file
 tdb tool FILE info|list|free    what the file holds in numbers, its records, its free records
 ";
+
+/// The words behind `tool FILE` that are no lines of a session.
+const ALONE: [&str; 4] = ["create", "info", "list", "free"];
 
 /// The names of the commands.
 const COMMANDS: [&str; 7] = ["tool", "dump", "restore", "backup", "turns", "gen", "help"];
@@ -78,7 +81,7 @@ fn asked_by(words: &[String]) -> Option<Asked> {
 /// Whether a word behind `tool FILE` begins as no command does. An option isn't looked into.
 fn is_no_tool(alloc: Global, word: &str) -> bool {
     !word.starts_with('-')
-        && word != "create"
+        && !ALONE.contains(&word)
         && matches!(answer_to(alloc, word.as_bytes()), Ok(Answer::Unknown(_)))
 }
 
