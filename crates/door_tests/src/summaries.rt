@@ -1,9 +1,9 @@
 // The commands that tell what a file holds: in numbers, by its chains and by its free list.
 
-use crate::images::{GATE, NEW_BIG, ONE, STRAY};
+use crate::images::{GATE, NEW, NEW_BIG, ONE, STRAY};
 use crate::runs::Failing::{Disk, Nothing, Output};
-use crate::runs::USAGE;
-use crate::tables::{Left, Table, failing_part};
+use crate::runs::{Line, USAGE, line_holds};
+use crate::tables::{Left, Table, files_of};
 use std::alloc::{AllocError, Global};
 use tdb_disk::Call;
 
@@ -121,37 +121,51 @@ pub(crate) static TABLES: [Table; 5] = [
     },
 ];
 
-/// The first line that goes otherwise over a file in which a value of 5000 bytes took the place of an empty one: the
-/// old record and what the file grew by are one free record.
-pub(crate) fn failing_growth(alloc: Global) -> Result<Option<&'static str>, AllocError> {
-    let mut store = String::from_str(alloc, "tool f.tdb store k ")?;
+/// What is told of a file in which a value of 5000 bytes took the place of an empty one: the old record and what the
+/// file grew by are one free record.
+static GROWN: [Line<'static>; 3] = [
+    (
+        "tool f.tdb info",
+        "",
+        Nothing,
+        0,
+        "size 12288\nhash default 131 little\nsequence 0\nkeys 1\ndead 0\nfree 1\ndeadbytes 0\narea 0\nkeybytes 1\ndatabytes 5000\nlargestfree 5288\n",
+    ),
+    (
+        "tool f.tdb list",
+        "",
+        Nothing,
+        0,
+        "chain 10 1\nused 6008 1 5000 6256\n",
+    ),
+    ("tool f.tdb free", "", Nothing, 0, "free 696 5288\n"),
+];
+
+/// A store of a value of 5000 bytes.
+fn long_store(alloc: Global) -> Result<String, AllocError> {
+    let mut words = String::from_str(alloc, "tool f.tdb store k ")?;
     for _ in 0..500 {
-        store.push_str("xxxxxxxxxx")?;
+        words.push_str("xxxxxxxxxx")?;
     }
-    let failure = failing_part(
-        alloc,
-        &[],
-        &[
-            ("tool f.tdb create", "", Nothing, 0, "ok\n"),
-            ("tool f.tdb store k \"\"", "", Nothing, 0, "ok\n"),
-            (store.as_str(), "", Nothing, 0, "ok\n"),
-            (
-                "tool f.tdb info",
-                "",
-                Nothing,
-                0,
-                "size 12288\nhash default 131 little\nsequence 0\nkeys 1\ndead 0\nfree 1\ndeadbytes 0\narea 0\nkeybytes 1\ndatabytes 5000\nlargestfree 5288\n",
-            ),
-            (
-                "tool f.tdb list",
-                "",
-                Nothing,
-                0,
-                "chain 10 1\nused 6008 1 5000 6256\n",
-            ),
-            ("tool f.tdb free", "", Nothing, 0, "free 696 5288\n"),
-        ],
-        &[],
-    )?;
-    Ok(failure.map(|_| "a grown file"))
+    Ok(words)
+}
+
+/// The first line that goes otherwise over a file in which a long value takes the place of an empty one.
+pub(crate) fn failing_growth(alloc: Global) -> Result<Option<&'static str>, AllocError> {
+    let store = long_store(alloc)?;
+    let mut files = files_of(alloc, &[("f.tdb", NEW)])?;
+    let empty = ("tool f.tdb store k \"\"", "", Nothing, 0, "ok\n");
+    if !line_holds(alloc, &mut files, &empty, &mut Vec::new(alloc))? {
+        return Ok(Some("an empty value"));
+    }
+    let long = (store.as_str(), "", Nothing, 0, "ok\n");
+    if !line_holds(alloc, &mut files, &long, &mut Vec::new(alloc))? {
+        return Ok(Some("a long value"));
+    }
+    for line in &GROWN {
+        if !line_holds(alloc, &mut files, line, &mut Vec::new(alloc))? {
+            return Ok(Some(line.0));
+        }
+    }
+    Ok(None)
 }
