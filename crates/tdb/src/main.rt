@@ -2,7 +2,6 @@
 //! Where a call of the system failed, it says on standard error why.
 #![tactic(auto)]
 
-use crate::fault_log::FaultLog;
 use crate::help::tell_asked;
 use crate::manner::manner_of;
 use std::alloc::AllocError;
@@ -11,12 +10,11 @@ use std::io::IsTerminal;
 use std::process::ExitCode;
 use std::{env, io};
 use tdb_disk::Sink;
-use tdb_files::{DirFiles, FileSink, Finding, InSource, OutSink, Progress, Silence};
+use tdb_files::{DirFiles, FileSink, InSource, OutSink, Progress, Silence};
 use tdb_log::{CountLog, Log, Logs, SinkLog};
 use tdb_terminal::TerminalSource;
 use tdb_top::{Status, run};
 
-mod fault_log;
 mod help;
 mod manner;
 
@@ -107,12 +105,10 @@ fn check_named(rt: &HostRuntime, status: Status, files: &DirFiles) -> Status {
     end_with(&mut output, "device fault\n", Status::DEVICE_FAULT)
 }
 
-/// Runs the words over the files of the system, and tells these logs. The files are told by this for which fault a file
-/// was refused.
+/// Runs the words over the files of the system, and tells these logs.
 fn run_logged<L: Logs>(
     rt: HostRuntime,
     words: &[String],
-    finding: Finding,
     logs: &mut L,
 ) -> Result<Status, AllocError> {
     let silence = Silence::new(rt.alloc())?;
@@ -122,7 +118,6 @@ fn run_logged<L: Logs>(
     let mut files = DirFiles::new(rt)
         .with_manner(manner_of(&rt, words))
         .with_silence(silence.share()?)
-        .with_finding(finding)
         .with_progress(when(Shown::Files));
     let source = InSource::new(rt.reader()).with_progress(when(Shown::Input));
     let told = OutSink::new(rt.stderr());
@@ -145,20 +140,14 @@ fn run_logged<L: Logs>(
     Ok(check_named(&rt, status, &files))
 }
 
-/// The logs of a run: one that counts, and over it, where the environment names a file, one that writes to that. Each
-/// tells the files too.
+/// The logs of a run: one that counts, and over it, where the environment names a file, one that writes to that.
 fn run_words(rt: HostRuntime, words: &[String]) -> Result<Status, AllocError> {
     let mut logs: Vec<Box<dyn Log>> = Vec::new(rt.alloc());
-    let finding = Finding::new(rt.alloc())?;
-    let counting = FaultLog::over(CountLog::new(), finding.share()?);
-    logs.push(Box::new(rt.alloc(), counting)?)?;
+    logs.push(Box::new(rt.alloc(), CountLog::new())?)?;
     match env::var(&rt, LOG_VARIABLE) {
         Ok(path) if path.is_empty() => {}
         Ok(path) => match FileSink::create(&rt, &path) {
-            Ok(sink) => {
-                let writing = FaultLog::over(SinkLog::new(sink), finding.share()?);
-                logs.push(Box::new(rt.alloc(), writing)?)?;
-            }
+            Ok(sink) => logs.push(Box::new(rt.alloc(), SinkLog::new(sink))?)?,
             Err(reason) => {
                 let _ = eprintln!(rt; "tdb: {LOG_VARIABLE}: {path}: {reason}");
                 return Ok(tell_log_fault(&rt));
@@ -171,7 +160,7 @@ fn run_words(rt: HostRuntime, words: &[String]) -> Result<Status, AllocError> {
             return Ok(tell_log_fault(&rt));
         }
     }
-    run_logged(rt, words, finding, &mut logs)
+    run_logged(rt, words, &mut logs)
 }
 
 /// Runs the words of the command line over the files of the system.
