@@ -11,6 +11,9 @@ pub mod Stopped
 pub mod Inside
 pub mod Passed
 pub mod Looked
+pub mod Walked
+pub mod Led
+pub mod FoundBeside
 pub mod PutFirst
 pub mod Removed
 pub mod OnceLeft

@@ -8,7 +8,7 @@ use Rattle.tdb_space.specs.Record.{Whole, IsFree, rec_len_of, magic_of, next_of}
 use Rattle.tdb_space.specs.Chain.{Free}
 use Rattle.tdb_space.specs.Extents.{HandPair}
 use Rattle.tdb_free.specs.FreeList.{free_pairs, starts_at, ends_at}
-use Rattle.tdb_free.specs.Look.{LooksFree, StartsByTailer}
+use Rattle.tdb_free.specs.Look.{LooksFree, StartsByTailer, EndsFree}
 use Rattle.tdb_free.specs.Search.{IsFirst, count_before}
 use Rattle.tdb_free.specs.declared.search.Spot.{Spot}
 use Rattle.tdb_free.proofs.Passed.{find_here, find_later, count_here, count_later}
@@ -35,17 +35,17 @@ module _ (f : Form) (img : List ℕ) where
       find_later (starts_at at) (x, rec_len_of f.order img x) (free_pairs f img xs) (ne_eqb x at (λ e. none (subst (LooksFree f.order img) e (looks x list.1 list.2))))
       ∙ none_starts at (next_of f.order img x) xs list.3 none
 
-  -- none ends where no record that starts by the tailer is so long
-  none_so_long : (at from : ℕ) (offs : List ℕ) → Free f img from offs → ((x : ℕ) → StartsByTailer f.order img at x → x + 24 + rec_len_of f.order img x ≡ at → ⊥)
+  -- none ends where no record that starts by the tailer looks free and is so long
+  none_so_long : (at from : ℕ) (offs : List ℕ) → Free f img from offs → ((x : ℕ) → StartsByTailer f.order img at x → LooksFree f.order img x → x + 24 + rec_len_of f.order img x ≡ at → ⊥)
       → find (ends_at at) (free_pairs f img offs) ≡ None
   none_so_long at from [] list none = refl
   none_so_long at from (x ∷ xs) list none =
-      find_later (ends_at at) (x, rec_len_of f.order img x) (free_pairs f img xs) (ne_eqb (x + 24 + rec_len_of f.order img x) at (λ e. none x (by_tailer x at list.1 e) e))
+      find_later (ends_at at) (x, rec_len_of f.order img x) (free_pairs f img xs) (ne_eqb (x + 24 + rec_len_of f.order img x) at (λ e. none x (by_tailer x at list.1 e) (looks x list.1 list.2) e))
       ∙ none_so_long at (next_of f.order img x) xs list.3 none
 
-  -- none ends where none starts by a tailer
-  pub none_ends : (at from : ℕ) (offs : List ℕ) → Free f img from offs → ((x : ℕ) → StartsByTailer f.order img at x → ⊥) → find (ends_at at) (free_pairs f img offs) ≡ None
-  none_ends at from offs list none = none_so_long at from offs list (λ x s e. none x s)
+  -- none ends where nothing looks free
+  pub none_ends : (at from : ℕ) (offs : List ℕ) → Free f img from offs → (EndsFree f.order img at → ⊥) → find (ends_at at) (free_pairs f img offs) ≡ None
+  none_ends at from offs list none = none_so_long at from offs list (λ x s free e. none (x, s, free))
 
   module _ (at start : ℕ) (there : StartsByTailer f.order img at start) where
     -- what ends at a place starts where the tailer there says
@@ -71,7 +71,7 @@ module _ (f : Form) (img : List ℕ) where
     -- none of the list ends there where what starts there ends elsewhere
     pub none_long : (from : ℕ) (offs : List ℕ) → Free f img from offs → (start + 24 + rec_len_of f.order img start ≡ at → ⊥) → find (ends_at at) (free_pairs f img offs) ≡ None
     none_long from offs list short =
-        none_so_long at from offs list (λ x s e. short ((λ j. sym (starts x s) j + 24 + rec_len_of f.order img (sym (starts x s) j)) ∙ e))
+        none_so_long at from offs list (λ x s free e. short ((λ j. sym (starts x s) j + 24 + rec_len_of f.order img (sym (starts x s) j)) ∙ e))
 
     -- and where none of the list starts there
     pub none_before : (from : ℕ) (offs : List ℕ) → Free f img from offs → find (starts_at start) (free_pairs f img offs) ≡ None → find (ends_at at) (free_pairs f img offs) ≡ None

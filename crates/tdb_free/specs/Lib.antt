@@ -4,6 +4,7 @@ pub mod Shortened
 pub mod Removal
 pub mod Search
 pub mod Look
+pub mod Walk
 pub mod Stretch
 pub mod Growth
 pub mod OnlyList

@@ -48,6 +48,11 @@ once_left p other = record {
   rec_len = p.rec_len;
 }
 
+-- a record, if one was found and it ends at a place
+abbrev pub that_ends : Option Spot → ℕ → Option Spot
+that_ends None at = None
+that_ends (Some p) at = if ends_at at (spot_pair p) then Some p else None
+
 -- the record before a hand, once the one behind it has left the list, where these were found
 abbrev pub previous_then : Option Spot → Option Spot → Option Spot
 previous_then None previous = previous

@@ -87,11 +87,11 @@ fn give_stretch<S: Space>(s: &mut S, len: u64, free: Stretch) -> Result<(), Spac
 /// become one record with it, which is the first of the list.
 ///
 /// It looks beside the hand, and reads 12 bytes at most for it. Only where something there has the magic of a free
-/// record, it goes along the list up to that, or to the end where that isn't in the list, once for each side: it reads
-/// the head of the list, 4 bytes of each record on the way, and 24 bytes of the one that is found. It writes four words
-/// at most besides the new record's header: its tailer, the head of the list, and the words that led to the two
-/// neighbours. It answers `Io` where the disk failed. Where the file doesn't hold the hand, or is longer than the words
-/// of a file can say, nothing is written.
+/// record, it goes along the list once, up to the last that does, or to the end where one of them isn't in the list: it
+/// reads the head of the list, 4 bytes of each record in front of that one, and 24 bytes of each that is found. It
+/// writes four words at most besides the new record's header: its tailer, the head of the list, and the words that led
+/// to the two neighbours. It answers `Io` where the disk failed. Where the file doesn't hold the hand, or is longer than
+/// the words of a file can say, nothing is written.
 pub fn give<S: Space>(s: &mut S, h: Hand) -> Result<(), FreeRefusal>
     requires room { RoomForAll (S.spare s.old) 5 40 }
     ensures given { OnOk result (IsTrue S.tells → (offs : List ℕ) → CanBeGiven (S.form s.old) (S.image s.old) offs h

@@ -15,6 +15,7 @@ mod removal;
 mod search;
 mod stretch;
 mod taking;
+mod walk;
 
 pub use crate::free_recs::FreeRecs;
 pub use crate::giving::give;

@@ -1,16 +1,16 @@
-// Searches along the free list: for a record that is long enough, and for the one at an offset.
+// The search of the free list for a record that is long enough.
 
-ghost use Rattle.std.specs.Prelude.{◌≡◌, ◌+◌, ◌*◌, ◌≤◌, IsTrue, IfOk, IfSome, OnOk, List, ℕ};
-ghost use Rattle.tdb_disk.specs.Count.{HasCause, RoseUpTo};
+ghost use Rattle.std.specs.Prelude.{◌≡◌, ◌+◌, ◌*◌, ◌≤◌, IsTrue, IfOk, IfSome, List, ℕ};
+ghost use Rattle.tdb_disk.specs.Count.{HasCause};
 ghost use Rattle.tdb_words.specs.Word.{word};
 ghost use Rattle.tdb_space.specs.Frame.{Looked};
 ghost use Rattle.tdb_space.specs.Form.{free_head};
 ghost use Rattle.tdb_space.specs.Chain.{Free};
-ghost use Rattle.tdb_free.specs.FreeList.{free_pairs, is_long_enough, starts_at, end_of};
-ghost use Rattle.tdb_free.specs.Search.{IsSpot, SpotWithin, count_before, once_left, spot_pair};
+ghost use Rattle.tdb_free.specs.FreeList.{is_long_enough, end_of};
+ghost use Rattle.tdb_free.specs.Search.{IsSpot, SpotWithin, once_left, spot_pair};
 
 use crate::record::first_free;
-use tdb_space::{FREE_HEAD, Io, Space, header_stands, read_listed, read_word};
+use tdb_space::{FREE_HEAD, Io, Space, read_listed};
 
 /// A free record, and the word that leads to it.
 #[derive(Clone, Copy, Debug, PartialEq, Eq)]
@@ -90,49 +90,6 @@ pub(crate) fn find_fit<S: Space>(s: &mut S, len: u64, rec_len: u64) -> Result<Op
         }
         before = at;
         at = rec.next;
-    }
-    Ok(None)
-}
-
-/// The record of the free list at an offset, if there is one. `len` is the length of the file.
-///
-/// It reads the head of the list, 4 bytes of each record in front of that one, and 24 bytes of that one; where it isn't
-/// in the list, 4 bytes of each record. Where the file's bytes aren't those of a free list, a word that leads to no
-/// place where a header can stand ends the list as a 0 does, and so do as many records as the file has words.
-#[tactic(auto, using(crate::proofs::Passed::passed_start, crate::proofs::Passed::passed_end, crate::proofs::Passed::passed_more, crate::proofs::Passed::passed_all))]
-pub(crate) fn find_at<S: Space>(s: &mut S, len: u64, off: u64) -> Result<Option<Spot>, Io>
-    requires length { len ≡ S.size s.old }
-    ensures found { IfOk result (λ found. IsTrue S.tells → (offs : List ℕ)
-        → Free (S.form s.old) (S.image s.old) (word (S.form s.old).order (S.image s.old) free_head) offs
-        → IsSpot (S.form s.old) (S.image s.old) offs (starts_at off) found) }
-    ensures within { IfOk result (λ found. IfSome found (λ p. SpotWithin p (S.form s.old) (S.size s.old))) }
-    ensures at { IfOk result (λ found. IfSome found (λ p. p.off ≡ off)) }
-    ensures looked { Looked S.Space s.old s.new }
-    ensures cause { HasCause (S.faults s.old) (S.faults s.new) result }
-    ensures bytes_read { S.bytes_read s.old ≤ S.bytes_read s.new }
-    ensures walked { OnOk result (IsTrue S.tells → (offs : List ℕ)
-        → Free (S.form s.old) (S.image s.old) (word (S.form s.old).order (S.image s.old) free_head) offs
-        → RoseUpTo (28 + 4 * count_before (starts_at off) (free_pairs (S.form s.old) (S.image s.old) offs)) (S.bytes_read s.old) (S.bytes_read s.new)) }
-{
-    let mut before = FREE_HEAD;
-    let mut at = first_free(s, len)?;
-    for _turn in 0..len / 4 {
-        if at as u64 == off {
-            let Some(rec) = read_listed(s, len, at)? else {
-                return Ok(None);
-            };
-            return Ok(Some(Spot {
-                off: at,
-                before,
-                next: rec.next,
-                rec_len: rec.rec_len,
-            }));
-        }
-        if !header_stands(at, len, s.hash_size()) {
-            return Ok(None);
-        }
-        before = at;
-        at = read_word(s, at as u64)?;
     }
     Ok(None)
 }
