@@ -1,6 +1,7 @@
 mod Walk
 mod Bytes
 pub mod Dumped
-mod Inserting
+pub mod Inserting
+mod Prepending
 mod Building
 mod Restored

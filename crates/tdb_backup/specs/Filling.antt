@@ -1,9 +1,15 @@
 -- What adding a pair makes of an image, and why it is refused.
-use Rattle.std.specs.Prelude.{◌≡◌, ℕ, ◌+◌, List, [], length, Some}
+use Rattle.std.specs.Prelude.{◌≡◌, ℕ, ◌+◌, ◌<◌, ◌≤◌, List, [], ◌∷◌, length, Some}
 use Rattle.std.specs.Map.{update}
-use Rattle.tdb_space.specs.Form.{Form}
-use Rattle.tdb_space.specs.Chain.{free_of}
-use Rattle.tdb_space.specs.Pairs.{map_of, same_key}
+use Rattle.tdb_words.specs.declared.record.TheConstants.{USED}
+use Rattle.tdb_words.specs.declared.word.Order.{Order}
+use Rattle.tdb_words.specs.Header.{area_head}
+use Rattle.tdb_words.specs.Word.{word}
+use Rattle.tdb_space.specs.Form.{Form, data_start}
+use Rattle.tdb_space.specs.Record.{magic_of}
+use Rattle.tdb_space.specs.Chain.{chain_of, free_of}
+use Rattle.tdb_space.specs.Pairs.{pairs, map_of, same_key, home}
+use Rattle.tdb_space.specs.Extents.{HandPair, times, all_extents}
 use Rattle.tdb_space.specs.Accepted.{AcceptWith}
 use Rattle.tdb_free.specs.Growth.{NoRoom}
 use Rattle.tdb_free.specs.declared.refusal.FreeRefusal as Free
@@ -15,6 +21,26 @@ use Rattle.tdb_backup.specs.declared.refusal.InsertRefusal.TheVariants.{Full, Io
 pub record Added (f : Form) (a b key value : List ℕ) : Type 0 where
   pub accepted : AcceptWith f b []
   pub map : (k : List ℕ) → map_of f b k ≡ update same_key (map_of f a) key (Some value) k
+
+-- each of these records is used
+abbrev pub AllUsed : Order → List ℕ → List ℕ → Type 0
+AllUsed o img [] = Unit {0}
+AllUsed o img (x ∷ xs) = (magic_of o img x ≡ USED) × AllUsed o img xs
+
+-- no byte from the data start on is lost: each is held just once, by a record of a chain or of the free list, by the undo
+-- area or by one of these hands
+abbrev pub HoldsEach : Form → List ℕ → List HandPair → Type 0
+HoldsEach f img hands = (i : ℕ) → data_start f ≤ i → i < length img → times (all_extents f img (chain_of f img) (free_of f img) hands) i ≡ 1
+
+-- From image a to image b a key and its value became the first pair of the key's chain. Each other chain has the pairs
+-- that it had. Where every record of a chain was used, every one is; the word of the undo area stays. Where there is no
+-- undo area and no byte was lost, none is.
+pub record PutFirst (f : Form) (a b key value : List ℕ) : Type 0 where
+  pub own : pairs f.order b (chain_of f b (home f key)) ≡ (key, value) ∷ pairs f.order a (chain_of f a (home f key))
+  pub others : (j : ℕ) → j < f.chains → (j ≡ home f key → ⊥) → pairs f.order b (chain_of f b j) ≡ pairs f.order a (chain_of f a j)
+  pub used : ((j : ℕ) → j < f.chains → AllUsed f.order a (chain_of f a j)) → (j : ℕ) → j < f.chains → AllUsed f.order b (chain_of f b j)
+  pub area : word f.order b area_head ≡ word f.order a area_head
+  pub each : word f.order a area_head ≡ 0 → HoldsEach f a [] → HoldsEach f b []
 
 -- An image of `len` bytes has no room for `need` bytes more, the record and its header: no free record is long enough,
 -- the image can't grow by so many, and it is as it was.

@@ -20,7 +20,7 @@ const HEADER: usize = 24;
 /// The first bytes of a record, as far as they were read, and where in them its key and its value begin. The value goes
 /// to their end.
 #[derive(Drop)]
-pub(crate) struct Held {
+pub struct Held {
     /// Room for a record's bytes, which gets longer and never shorter. Behind those that were read it holds others.
     bytes: Vec<u8>,
 
@@ -41,7 +41,7 @@ impl Held {
     ghost use Rattle.tdb_backup.specs.Held.{IsFront, IsPairOf, Shows, pair_held};
 
     /// No record's bytes, and an empty pair. It takes no memory.
-    pub(crate) fn new(alloc: Global) -> Held {
+    pub fn new(alloc: Global) -> Held {
         Held {
             bytes: Vec::new(alloc),
             key_at: 0,
@@ -51,14 +51,14 @@ impl Held {
     }
 
     /// The key of the pair.
-    pub(crate) fn key(&self) -> &[u8]
+    pub fn key(&self) -> &[u8]
         ensures { result.now ≡ (pair_held self.now).0 }
     {
         &self.bytes[self.key_at..self.value_at]
     }
 
     /// The value of the pair.
-    pub(crate) fn value(&self) -> &[u8]
+    pub fn value(&self) -> &[u8]
         ensures { result.now ≡ (pair_held self.now).1 }
     {
         &self.bytes[self.value_at..self.end]
@@ -66,7 +66,7 @@ impl Held {
 
     /// Reads the header of the record at an offset of a file of `len` bytes, and what follows it as far as it fits into
     /// the window and the file reaches.
-    pub(crate) fn read_front<S: Space>(
+    pub fn read_front<S: Space>(
         &mut self,
         s: &mut S,
         len: u64,
@@ -92,12 +92,7 @@ impl Held {
 
     /// Reads on to the end of the value of the record at an offset, whose front was read and which has this header,
     /// unless that was read already.
-    pub(crate) fn read_rest<S: Space>(
-        &mut self,
-        s: &mut S,
-        at: u32,
-        rec: &Rec,
-    ) -> Result<(), ValueRefusal>
+    pub fn read_rest<S: Space>(&mut self, s: &mut S, at: u32, rec: &Rec) -> Result<(), ValueRefusal>
         requires front { IsFront self.old at (S.size s.old) }
         requires within { at + 24 + rec.now.key_len + rec.now.data_len ≤ S.size s.old }
         ensures pair { OnOk result (IsTrue S.tells → Shows self.old (S.image s.old) at

@@ -22,10 +22,10 @@ use Rattle.tdb_rewrite.specs.declared.sums.PairBytes.{PairBytes}
 capped : (top a k : ℕ) → min (min (0 + a) top + k) top ≡ min (0 + (a + k)) top
 capped top a k = omega arith
 
-pair_used : (o : Order) (img : List ℕ) (x : ℕ) → magic_of o img x ≡ USED → pair_of o img x ≡ (key_at o img x, data_at o img x) ∷ []
+pub pair_used : (o : Order) (img : List ℕ) (x : ℕ) → magic_of o img x ≡ USED → pair_of o img x ≡ (key_at o img x, data_at o img x) ∷ []
 pair_used o img x used = rw (eq-eqb (magic_of o img x) USED used) refl
 
-pair_other : (o : Order) (img : List ℕ) (x : ℕ) → magic_of o img x ≢ USED → pair_of o img x ≡ []
+pub pair_other : (o : Order) (img : List ℕ) (x : ℕ) → magic_of o img x ≢ USED → pair_of o img x ≡ []
 pair_other o img x other = rw (ne_eqb (magic_of o img x) USED other) refl
 
 where_used : (magic n m : ℕ) → magic ≡ USED → (if magic == USED then n else m) ≡ n

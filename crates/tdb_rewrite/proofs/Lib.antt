@@ -5,3 +5,5 @@ pub mod Bounds
 pub mod Greatest
 pub mod Streamed
 pub mod Written
+pub mod Reading
+pub mod Copied

@@ -4,3 +4,4 @@ pub mod Refusal
 pub mod Sums
 pub mod Summary
 pub mod Text
+pub mod Rewritten
