@@ -2,6 +2,7 @@
 //! Where a call of the system failed, it says on standard error why.
 #![tactic(auto)]
 
+use crate::finding_logs::FindingLogs;
 use crate::help::tell_asked;
 use crate::manner::manner_of;
 use std::alloc::AllocError;
@@ -10,11 +11,12 @@ use std::io::IsTerminal;
 use std::process::ExitCode;
 use std::{env, io};
 use tdb_disk::Sink;
-use tdb_files::{DirFiles, FileSink, InSource, OutSink, Progress, Silence};
+use tdb_files::{DirFiles, FileSink, Finding, InSource, OutSink, Progress, Silence};
 use tdb_log::{CountLog, Log, Logs, SinkLog};
 use tdb_terminal::TerminalSource;
 use tdb_top::{Status, run};
 
+mod finding_logs;
 mod help;
 mod manner;
 
@@ -105,31 +107,35 @@ fn check_named(rt: &HostRuntime, status: Status, files: &DirFiles) -> Status {
     end_with(&mut output, "device fault\n", Status::DEVICE_FAULT)
 }
 
-/// Runs the words over the files of the system, and tells these logs.
-fn run_logged<L: Logs>(
+/// Runs the words over the files of the system, and tells these logs, and the files for which fault one was refused.
+fn run_logged<L: Logs + Drop>(
     rt: HostRuntime,
     words: &[String],
-    logs: &mut L,
+    logs: L,
 ) -> Result<Status, AllocError> {
-    let silence = Silence::new(rt.alloc())?;
+    let alloc = rt.alloc();
+    let silence = Silence::new(alloc)?;
+    let finding = Finding::new(alloc)?;
     let shown = shown_of(&rt, words);
     let progress = shown.and_then(|_| Progress::on_terminal(rt));
     let when = |what| progress.filter(|_| shown == Some(what));
     let mut files = DirFiles::new(rt)
         .with_manner(manner_of(&rt, words))
         .with_silence(silence.share()?)
+        .with_finding(finding.share()?)
         .with_progress(when(Shown::Files));
+    let mut logs = FindingLogs::over(logs, finding);
     let source = InSource::new(rt.reader()).with_progress(when(Shown::Input));
     let told = OutSink::new(rt.stderr());
     let mut input = if is_typed(&rt, words) {
-        TerminalSource::asking(rt.alloc(), source, told)
+        TerminalSource::asking(alloc, source, told)
     } else {
-        TerminalSource::passing(rt.alloc(), source, told)
+        TerminalSource::passing(alloc, source, told)
     };
     let mut output = OutSink::new(io::writer(&rt))
         .with_silence(silence)
         .with_progress(when(Shown::Output));
-    let status = run(rt.alloc(), words, &mut files, &mut input, &mut output, logs);
+    let status = run(alloc, words, &mut files, &mut input, &mut output, &mut logs);
     if let Some(progress) = progress {
         progress.clear();
     }
@@ -160,7 +166,7 @@ fn run_words(rt: HostRuntime, words: &[String]) -> Result<Status, AllocError> {
             return Ok(tell_log_fault(&rt));
         }
     }
-    run_logged(rt, words, &mut logs)
+    run_logged(rt, words, logs)
 }
 
 /// Runs the words of the command line over the files of the system.
@@ -179,6 +185,3 @@ fn main(rt: HostRuntime) -> ExitCode {
     };
     ExitCode::from(status)
 }
-
-#[cfg(test)]
-mod tests;

@@ -4,12 +4,13 @@ use std::alloc::{AllocError, Global};
 use std::cell::Cell;
 use std::fmt;
 use std::rc::Rc;
+use tdb_words::What;
 
 /// Why a file that is replaced was refused.
 #[derive(Clone, Copy)]
 pub(crate) enum Cause {
     /// For this fault, at this offset in bytes.
-    Fault(&'static str, u64),
+    Fault(What, u64),
     /// For its header, of which no log is told.
     Header,
     /// Nobody told it.
@@ -46,7 +47,7 @@ impl Finding {
     }
 
     /// The file that is taken was refused for this fault, at this offset in bytes.
-    pub fn note(&self, what: &'static str, at: u64) {
+    pub fn note(&self, what: What, at: u64) {
         self.cause.set(Cause::Fault(what, at));
     }
 

@@ -3,6 +3,7 @@
 use crate::holder::{Holder, ProcessName};
 use crate::identity::Identity;
 use crate::lock_table::{LockFamily, find_lock, has_lock};
+use crate::reason::is_missing;
 use std::{fs, io, process};
 
 /// The system's table of locks.
@@ -57,11 +58,13 @@ struct Runs<'a> {
 
 impl Runs<'_> {
     /// Whether a process is a run of this program: this one, one of the same program, or one that has the lock on the
-    /// whole file.
+    /// whole file. One that ends counts as one: the system knows no program of it, shortly before it closes its files.
     fn has(&self, rt: &HostRuntime, process: u32, file: Identity) -> bool {
-        process == self.own
-            || program_of(rt, process).is_ok_and(|program| Some(program) == self.program)
-            || has_lock(self.table, file, LockFamily::Whole, process)
+        let runs_it = match program_of(rt, process) {
+            Ok(program) => Some(program) == self.program,
+            Err(error) => is_missing(&error),
+        };
+        runs_it || process == self.own || has_lock(self.table, file, LockFamily::Whole, process)
     }
 }
 
