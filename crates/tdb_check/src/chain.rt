@@ -140,7 +140,7 @@ fn used_count(r: &Rec) -> u64
 }
 
 /// How a walk along a chain ends.
-#[derive(Clone, Copy, Debug)]
+#[derive(Clone, Copy)]
 pub enum End {
     /// At a word 0.
     Last,
@@ -153,7 +153,7 @@ pub enum End {
 }
 
 /// A walk along a chain.
-#[derive(Clone, Copy, Debug)]
+#[derive(Clone, Copy)]
 pub struct Walk {
     /// How many of the records are used.
     pub live: u64,

@@ -6,7 +6,7 @@ ghost use Rattle.tdb_check.specs.Hashes.{AreHashesOf, BothHold};
 use tdb_words::{HashKind, HashRun, hash_jenkins, hash_old};
 
 /// The two hashes of a key.
-#[derive(Clone, Copy, Debug)]
+#[derive(Clone, Copy)]
 pub(crate) struct KeyHashes {
     /// The file's own.
     pub own: u32,
@@ -29,7 +29,7 @@ pub(crate) fn hashes_of(kind: HashKind, key: &[u8]) -> KeyHashes
 }
 
 /// Both hashes of a key that comes in pieces.
-#[derive(Clone, Copy, Debug)]
+#[derive(Clone, Copy)]
 pub(crate) struct KeyRun {
     mark: HashRun,
 

@@ -20,7 +20,7 @@ use tdb_space::Space;
 use tdb_words::USED;
 
 /// A used record, by what tells its key from most others.
-#[derive(Clone, Copy, Debug)]
+#[derive(Clone, Copy)]
 pub struct Noted {
     /// A number that its key determines: Jenkins' hash of the key, or the first word of a digest.
     pub mark: u32,

@@ -16,14 +16,14 @@ use tdb_space::{Io, Space};
 use tdb_words::{FREE, HashKind, Order, Rec, USED, chain_of};
 
 /// A record, and the list that it belongs to.
-#[derive(Clone, Copy, Debug)]
+#[derive(Clone, Copy)]
 pub(crate) struct Member {
     pub list: ListKind,
     pub found: Found,
 }
 
 /// What of a file's form tells the list of a record and its key's hash.
-#[derive(Clone, Copy, Debug)]
+#[derive(Clone, Copy)]
 struct Filing {
     order: Order,
     hash: HashKind,

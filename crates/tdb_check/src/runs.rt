@@ -4,7 +4,7 @@ ghost use Rattle.std.specs.Prelude.{◌≡◌, ℕ, List, [], IsTrue};
 
 /// The records of one list that were met in the order of the file, in runs. In a run each record leads to the one that
 /// is met next. The last of a run leads to the first of the run before it, and that of the first run to none.
-#[derive(Clone, Copy, Debug)]
+#[derive(Clone, Copy)]
 pub(crate) struct Runs {
     /// Where the latest run begins; 0 where no record was met.
     start: u32,

@@ -20,7 +20,7 @@ pub enum Call {
 }
 
 /// How many calls of each kind were made.
-#[derive(Clone, Copy, Debug, PartialEq, Eq)]
+#[derive(Clone, Copy)]
 pub struct Made {
     pub len: u64,
     pub read: u64,

@@ -11,7 +11,7 @@ use std::collections::{BTreeMap, BTreeSet};
 use tdb_words::{Bytes, hash_jenkins};
 
 /// Where a key's bytes stand among those of others.
-#[derive(Clone, Copy, Debug)]
+#[derive(Clone, Copy)]
 pub(crate) struct Place {
     start: u32,
     end: u32,
@@ -19,7 +19,7 @@ pub(crate) struct Place {
 
 /// Keys. Most of them cost their bytes, a mark and a place: one is looked up by its mark, which is Jenkins' hash. Those
 /// whose mark an earlier key has stand in a tree by themselves: they are few, but where a stranger chose the keys.
-#[derive(Debug, Drop)]
+#[derive(Drop)]
 pub(crate) struct KeySet {
     alloc: Global,
 

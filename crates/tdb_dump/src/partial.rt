@@ -11,14 +11,14 @@ use std::mem;
 use tdb_words::Bytes;
 
 /// A field of a record.
-#[derive(Clone, Copy, Debug, PartialEq, Eq)]
+#[derive(Clone, Copy)]
 pub(crate) enum Field {
     Key,
     Data,
 }
 
 /// What comes behind the fixed bytes.
-#[derive(Clone, Copy, Debug, PartialEq, Eq)]
+#[derive(Clone, Copy, PartialEq, Eq)]
 pub(crate) enum Step {
     /// A record, or the end of the text.
     Between,
@@ -35,7 +35,7 @@ pub(crate) enum Step {
 }
 
 /// What a byte does.
-#[derive(Clone, Copy, Debug, PartialEq, Eq)]
+#[derive(Clone, Copy)]
 pub(crate) enum Move {
     /// No text goes on with this byte.
     Refuse,
@@ -135,7 +135,7 @@ fn next_move(step: Step, field: Field, byte: u8) -> Move
 }
 
 /// What has come of the record at hand.
-#[derive(Clone, Copy, Debug, PartialEq, Eq)]
+#[derive(Clone, Copy)]
 pub(crate) enum Taken {
     /// A byte more of it.
     More,
@@ -146,7 +146,7 @@ pub(crate) enum Taken {
 }
 
 /// The record at hand: fixed bytes that must come, the step behind them, and the bytes that came.
-#[derive(Debug, Drop)]
+#[derive(Drop)]
 pub(crate) struct Partial {
     fixed: &'static [u8],
     step: Step,

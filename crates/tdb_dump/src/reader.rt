@@ -41,7 +41,7 @@ impl<T: Drop> From<AllocFailed<T>> for ReadRefusal {
 }
 
 /// A reader of dump text. It keeps the keys that it has given, so as to refuse a second one, and the record at hand.
-#[derive(Debug, Drop)]
+#[derive(Drop)]
 pub struct Reader {
     alloc: Global,
     partial: Partial,

@@ -26,7 +26,7 @@ use tdb_words::Header;
 use tdb_world::World;
 
 /// The commands that are made for the openers of a world, and what was counted of their turns.
-#[derive(Debug, Drop)]
+#[derive(Drop)]
 pub(crate) struct Generation {
     alloc: Global,
     generator: Generator,

@@ -27,7 +27,7 @@ const LONGEST_VALUE: usize = 255;
 const APPENDED: usize = 4;
 
 /// A sequence of numbers, of which commands are made.
-#[derive(Clone, Copy, Debug)]
+#[derive(Clone, Copy)]
 pub(crate) struct Generator {
     /// The last number.
     number: u32,

@@ -9,7 +9,7 @@ use std::marker::Model;
 
 /// How many times an opener holds each chain explicitly, and all records: the kind and how many
 /// times.
-#[derive(Debug, Drop)]
+#[derive(Drop)]
 pub struct Held {
     chains: BTreeMap<u32, u32>,
     chain_total: u64,

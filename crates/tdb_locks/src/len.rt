@@ -3,7 +3,7 @@ ghost use Rattle.std.specs.Prelude.{◌≡◌};
 ghost use Rattle.tdb_locks.specs.LockTable.{IsRange, stop};
 
 /// How many bytes a range has: a count, or all that follow its start, however long the file grows.
-#[derive(Clone, Copy, Debug, PartialEq, Eq, Hash)]
+#[derive(Clone, Copy, Debug, PartialEq, Eq)]
 pub enum Len {
     Bytes(u64),
     ToEnd,

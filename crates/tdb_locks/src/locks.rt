@@ -37,7 +37,7 @@ impl From<AllocError> for LockRefusal {
 
 /// What each owner holds, as pieces in the order of owners and then of bytes. The pieces of one
 /// owner are apart, and neighbours are not joined.
-#[derive(Debug, Drop)]
+#[derive(Drop)]
 pub struct Locks {
     pieces: Vec<Piece>,
 }

@@ -2,7 +2,7 @@
 use crate::kind::Kind;
 
 /// A range of bytes that one owner holds with one kind, as it stands in the table.
-#[derive(Clone, Copy, Debug, PartialEq, Eq, Hash)]
+#[derive(Clone, Copy, Debug, PartialEq, Eq)]
 pub struct Piece {
     pub owner: u32,
     /// The first byte.

@@ -7,7 +7,7 @@ use std::marker::Model;
 
 /// The offsets of the records on which cursors stand, once for each cursor, in the order in which
 /// they were put there.
-#[derive(Debug, Drop)]
+#[derive(Drop)]
 pub struct Spots {
     offsets: Vec<u32>,
 }

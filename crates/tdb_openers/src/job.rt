@@ -14,7 +14,7 @@ use tdb_walk::Goal;
 use tdb_words::Bytes;
 
 /// A command on the opener's explicit locks, with the key whose chain it is on.
-#[derive(Debug, Drop)]
+#[derive(Drop)]
 pub(crate) enum Locking {
     /// Locks the chain for writing, and waits where another opener's lock is in the way.
     Chain { key: Bytes },
@@ -53,7 +53,7 @@ impl Locking {
 }
 
 /// What a check has locked.
-#[derive(Clone, Copy, Debug, PartialEq, Eq)]
+#[derive(Clone, Copy)]
 pub(crate) enum Checking {
     /// Nothing.
     Begun,
@@ -66,7 +66,7 @@ pub(crate) enum Checking {
 }
 
 /// A command on the opener's cursor.
-#[derive(Clone, Copy, Debug, PartialEq, Eq)]
+#[derive(Clone, Copy)]
 pub(crate) enum Walking {
     /// Begins a walk, with the move to the first pair.
     First,
@@ -104,7 +104,6 @@ impl Walking {
 }
 
 /// What an unfinished command is done by.
-#[derive(Debug)]
 pub(crate) enum Job {
     /// The opener's own state refuses it, or it is a Next without a cursor: its first turn replies so.
     Refused { command: Command, reply: Reply },
@@ -121,7 +120,6 @@ pub(crate) enum Job {
 }
 
 /// An unfinished command, and how many steps it has had.
-#[derive(Debug)]
 pub(crate) struct Task {
     pub(crate) steps: u32,
     pub(crate) job: Job,

@@ -9,7 +9,7 @@ use tdb_locks::Held;
 use tdb_walk::Walk;
 
 /// An opener of the file.
-#[derive(Debug, Drop)]
+#[derive(Drop)]
 pub(crate) struct Opener {
     /// Whether it has joined and not ended.
     pub(crate) live: bool,

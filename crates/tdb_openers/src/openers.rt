@@ -51,7 +51,7 @@ pub enum JoinRefusal {
 }
 
 /// The openers of one file, and the locks that they hold. Their numbers are counted from 1 on, and none is used twice.
-#[derive(Debug, Drop)]
+#[derive(Drop)]
 pub struct Openers {
     alloc: Global,
     header: Header,

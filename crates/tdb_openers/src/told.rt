@@ -33,7 +33,6 @@ use tdb_words::Header;
 
 /// A plain command that is done turn by turn, and the same command as a report tells it. Contracts see its machine
 /// alone.
-#[derive(Debug)]
 pub(crate) struct PlainJob {
     machine: Machine,
     told: Command,

@@ -32,7 +32,6 @@ use tdb_words::{Bytes, Header, chain_of, hash_of};
 /// A plain command that is done turn by turn.
 ///
 /// It can't be dropped, since it may hold a record that is in no list: it is done to its end, or given up.
-#[derive(Debug)]
 pub struct Machine {
     command: Plain,
     chain: u32,

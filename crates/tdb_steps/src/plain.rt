@@ -8,7 +8,7 @@ use crate::flag::Flag;
 use tdb_words::Bytes;
 
 /// A command on the map of a file that needs no transaction, with its key and its value if it has them.
-#[derive(Debug, Drop)]
+#[derive(Drop)]
 pub enum Plain {
     /// Asks for the value of a key.
     Fetch {

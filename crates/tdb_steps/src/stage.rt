@@ -11,7 +11,6 @@ use tdb_space::Hand;
 /// What a command knows and holds between two of its turns. Nothing else is remembered.
 ///
 /// It can't be dropped, since it may hold a record that is in no list.
-#[derive(Debug)]
 pub enum Stage {
     /// No turn was taken.
     Begun,
@@ -49,7 +48,6 @@ pub enum WipeStage {
 }
 
 /// What a turn leads to.
-#[derive(Debug)]
 pub enum Next {
     /// The command goes on.
     Step(Stage),

@@ -42,7 +42,7 @@ pub fn wipe_bytes(chains: u32) -> u64
 
 /// Where the undo area of a file stands: from an offset up to another, both in bytes. Where there is none both are the
 /// file's length.
-#[derive(Clone, Copy, Debug, PartialEq, Eq)]
+#[derive(Clone, Copy)]
 pub(crate) struct AreaBounds {
     /// The offset of its header.
     pub from: u32,

@@ -16,7 +16,7 @@ use tdb_disk::Source;
 use tdb_script::first_word;
 
 /// What a line asks for.
-#[derive(Debug, Drop)]
+#[derive(Drop)]
 pub(crate) enum Asked {
     /// Nothing: it has no words.
     Nothing,

@@ -19,7 +19,7 @@ use tdb_words::Bytes;
 const PIECE: usize = 65536;
 
 /// Why there is no next line.
-#[derive(Clone, Copy, Debug, PartialEq, Eq)]
+#[derive(Clone, Copy)]
 pub(crate) enum LineFault {
     /// A read of the source failed.
     Input,

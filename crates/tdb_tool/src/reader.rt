@@ -6,7 +6,7 @@ use std::alloc::Global;
 
 /// The lines of a source, one after the other. It reads only where the next line isn't at hand whole, and each byte
 /// once.
-#[derive(Debug, Drop)]
+#[derive(Drop)]
 pub(crate) struct LineReader {
     pub(crate) alloc: Global,
     /// The bytes that were read last. Those from `start` to `end` belong to no line yet.

@@ -15,7 +15,7 @@ use tdb_locks::{Held, Reply};
 use tdb_words::{Bytes, Header, chain_of, hash_of};
 
 /// What of an opener's transaction, and of its cursor, decides which of its commands are refused.
-#[derive(Clone, Copy, Debug, PartialEq, Eq)]
+#[derive(Clone, Copy)]
 pub(crate) struct Level {
     /// Whether its transaction is prepared.
     pub(crate) prepared: bool,

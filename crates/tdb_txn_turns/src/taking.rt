@@ -22,7 +22,7 @@ pub(crate) const NUMBER_BYTE: u64 = 48;
 pub(crate) const ALL_RECORDS: u64 = 168;
 
 /// What an attempt to take a lock led to.
-#[derive(Clone, Copy, Debug, PartialEq, Eq)]
+#[derive(Clone, Copy)]
 pub(crate) enum Attempt {
     Taken,
 

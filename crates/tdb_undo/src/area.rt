@@ -26,7 +26,7 @@ pub(crate) const OLD_LEN: u64 = 8;
 pub(crate) const GATE: u64 = 20;
 
 /// The undo area of a file.
-#[derive(Clone, Copy, Debug, PartialEq, Eq)]
+#[derive(Clone, Copy)]
 pub(crate) struct Area {
     /// The offset at which it stands.
     pub at: u32,

@@ -34,7 +34,7 @@ use tdb_space::{Io, Space};
 use tdb_words::Bytes;
 
 /// A cursor on a file: where it stands, and how far it is with the turns of a command.
-#[derive(Debug, Drop)]
+#[derive(Drop)]
 pub struct Cursor {
     place: Standing,
     stage: Stage,

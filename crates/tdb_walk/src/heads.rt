@@ -13,7 +13,7 @@ use tdb_words::{Order, word_in};
 const HEADS: u32 = 1024;
 
 /// The head of a chain that has a record.
-#[derive(Clone, Copy, Debug, PartialEq, Eq)]
+#[derive(Clone, Copy)]
 pub(crate) struct Head {
     /// The number of the chain.
     pub(crate) chain: u32,

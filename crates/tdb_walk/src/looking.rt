@@ -15,7 +15,7 @@ use tdb_locks::{Held, Kind, Len, LockRefusal, Locks};
 use tdb_space::Space;
 
 /// What a look at a chain shows.
-#[derive(Clone, Copy, Debug, PartialEq, Eq)]
+#[derive(Clone, Copy)]
 pub enum Look {
     /// Its first live record, if it has one.
     Seen(Option<Live>),

@@ -20,7 +20,7 @@ use tdb_space::{Io as SpaceIo, Space, chain_head, data_start, read_listed, read_
 use tdb_words::USED;
 
 /// A dead record of a chain.
-#[derive(Clone, Copy, Debug, PartialEq, Eq)]
+#[derive(Clone, Copy)]
 pub struct DeadRecord {
     /// The chain in which it stands.
     pub chain: u32,

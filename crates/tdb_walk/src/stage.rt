@@ -37,7 +37,7 @@ impl Goal {
 }
 
 /// How far a cursor is with the turns of a command.
-#[derive(Clone, Copy, Debug, PartialEq, Eq)]
+#[derive(Clone, Copy)]
 pub enum Stage {
     /// No lock of a command is taken.
     Rested,
@@ -53,7 +53,7 @@ pub enum Stage {
 }
 
 /// A lock that a turn takes.
-#[derive(Clone, Copy, Debug, PartialEq, Eq)]
+#[derive(Clone, Copy)]
 pub enum StepLock {
     /// Of this chain, for reading.
     ReadChain(u32),
@@ -112,7 +112,7 @@ impl StepLock {
 
 /// What the next turn of a command does. Where the chain and the free list are locked, the dead record is purged with
 /// the last turn.
-#[derive(Clone, Copy, Debug, PartialEq, Eq)]
+#[derive(Clone, Copy)]
 pub enum Act {
     /// It takes a lock.
     Lock(StepLock),

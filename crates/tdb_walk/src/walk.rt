@@ -20,7 +20,7 @@ use tdb_space::{Io, Space};
 use tdb_words::Bytes;
 
 /// The cursor of an opener, which is past the last chain where the opener has none.
-#[derive(Debug, Drop)]
+#[derive(Drop)]
 pub struct Walk {
     pub cursor: Cursor,
     /// The key of the pair that it has shown last, until it ends.

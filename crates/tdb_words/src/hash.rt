@@ -57,7 +57,7 @@ pub fn chain_of(hash: u32, hash_size: u32) -> u32
 }
 
 /// The running hash of one kind.
-#[derive(Clone, Copy, Debug)]
+#[derive(Clone, Copy)]
 pub(crate) enum Way {
     Old(OldRun),
     Jenkins(JenkinsRun),
@@ -65,7 +65,7 @@ pub(crate) enum Way {
 
 /// The hash of a key that comes in pieces, of which none is kept: at most twelve bytes wait for the
 /// next piece.
-#[derive(Clone, Copy, Debug)]
+#[derive(Clone, Copy)]
 pub struct HashRun {
     way: Way,
 }

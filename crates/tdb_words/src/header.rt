@@ -8,6 +8,7 @@ ghost use Rattle.tdb_words.specs.Header.{food, order_named, hash_named, header_a
 use crate::hash::{HashKind, hash_of};
 use crate::record::USED;
 use crate::word::{Order, word_bytes, word_in};
+use std::fmt;
 use thiserror::Error;
 
 /// The text that a file begins with.
@@ -45,27 +46,21 @@ pub struct Header {
 #[derive(Clone, Copy, Debug, PartialEq, Eq, Error)]
 pub enum HeaderFault {
     /// The first ten bytes are another text.
-    #[error("{}", self.as_str())]
     NotTdb,
 
     /// The version word is another in both byte orders.
-    #[error("{}", self.as_str())]
     Version,
 
     /// The locks word is that of an old format.
-    #[error("{}", self.as_str())]
     OldLocks,
 
     /// The file asks for features that aren't known, as mutexes.
-    #[error("{}", self.as_str())]
     Mutexes,
 
     /// The two hash words are those of neither hash.
-    #[error("{}", self.as_str())]
     UnknownHash,
 
     /// The file has no chain.
-    #[error("{}", self.as_str())]
     NoBuckets,
 }
 
@@ -82,6 +77,12 @@ impl HeaderFault {
             HeaderFault::UnknownHash => "UnknownHash",
             HeaderFault::NoBuckets => "NoBuckets",
         }
+    }
+}
+
+impl fmt::Display for HeaderFault {
+    fn fmt<W: fmt::Write>(&self, f: &mut fmt::Formatter<W>) -> fmt::Result {
+        f.write_str(self.as_str())
     }
 }
 

@@ -5,7 +5,7 @@ ghost use Rattle.std.specs.Prelude.{◌≡◌, ℕ, ◌+◌, ◌*◌, ◌<◌, �
 use byteorder::{ByteOrder, LittleEndian};
 
 /// The three running words.
-#[derive(Clone, Copy, Debug)]
+#[derive(Clone, Copy)]
 pub(crate) struct Mixer {
     a: u32,
     b: u32,
@@ -109,7 +109,7 @@ impl Mixer {
 
 /// Jenkins' hash of a key that comes in pieces. Up to twelve bytes wait, since whether they are the
 /// last isn't known before more come.
-#[derive(Clone, Copy, Debug)]
+#[derive(Clone, Copy)]
 pub(crate) struct JenkinsRun {
     mixer: Mixer,
     waiting: [u8; 12],

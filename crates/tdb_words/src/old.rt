@@ -12,7 +12,7 @@ fn shift_after(shift: u32) -> u32
 }
 
 /// The default hash of a key that comes in pieces.
-#[derive(Clone, Copy, Debug)]
+#[derive(Clone, Copy)]
 pub(crate) struct OldRun {
     value: u32,
     shift: u32,

@@ -33,7 +33,7 @@ use tdb_space::{Direct, Io};
 use tdb_txn_owner::{Moved, TxnOwner, Wants};
 
 /// What a lock of all records among the openers has come to.
-#[derive(Clone, Copy, Debug, PartialEq, Eq)]
+#[derive(Clone, Copy)]
 enum Claim {
     /// The opener has what its next turn wants of it.
     Taken,
