@@ -15,23 +15,23 @@ use Rattle.tdb_tool.specs.declared.fault.SessionEnd.{SessionEnd}
 use Rattle.tdb_tool.specs.declared.fault.SessionEnd.TheVariants as End
 use Rattle.tdb_tool.specs.declared.fault.SessionFault.{SessionFault}
 use Rattle.tdb_tool.specs.declared.fault.SessionFault.TheVariants as F
-use Rattle.tdb_top.specs.declared.ending.Ending.{Ending}
-use Rattle.tdb_top.specs.declared.ending.Ending.TheVariants.{Replied, Refused, DeviceFault, InputFault, Malformed, NoMemory, LogFault}
-use Rattle.tdb_top.specs.declared.ending.Reply.TheVariants.{Played}
-use Rattle.tdb_top.specs.declared.ending.Unprinted.{Unprinted}
+use Rattle.tdb_answer.specs.declared.ending.Ending.{Ending}
+use Rattle.tdb_answer.specs.declared.ending.Ending.TheVariants.{Replied, Refused, DeviceFault, InputFault, Malformed, NoMemory, LogFault}
+use Rattle.tdb_answer.specs.declared.ending.Reply.TheVariants.{Played}
+use Rattle.tdb_answer.specs.declared.ending.Unprinted.{Unprinted}
 use Rattle.tdb_open.specs.declared.halt.Halt.TheVariants as H
 use Rattle.tdb_open.specs.declared.halt.Refusal.{Refusal}
-use Rattle.tdb_top.specs.Commands.Session.{session_options, of_end, IsServed, IsServedSoFar, IsServedBroken, SessionOn, SessionFile, file_unopened, session_ran, SessionHeld}
+use Rattle.tdb_answer.specs.Commands.Session.{session_options, of_end, IsServed, IsServedSoFar, IsServedBroken, SessionOn, SessionFile, file_unopened, session_ran, SessionHeld}
 use Rattle.tdb_tool.specs.Serving.{HeardOrRefused}
-use Rattle.tdb_top.specs.Ending.{status_of, text_of, PrintedFor, PrintsAll, CountedBy}
-use Rattle.tdb_top.specs.Input.{Input}
-use Rattle.tdb_top.specs.Looks.{ending_of}
-use Rattle.tdb_top.specs.Output.{Output, output_by}
-use Rattle.tdb_top.specs.Printed.{Finishes}
+use Rattle.tdb_answer.specs.Ending.{status_of, text_of, PrintedFor, PrintsAll, CountedBy}
+use Rattle.tdb_answer.specs.Input.{Input}
+use Rattle.tdb_answer.specs.Looks.{ending_of}
+use Rattle.tdb_answer.specs.Output.{Output, output_by}
+use Rattle.tdb_answer.specs.Printed.{Finishes}
 use Rattle.tdb_open.specs.Opening.{SameOrUndone}
-use Rattle.tdb_top.specs.Run.{HaltHeard, SessionBroken, SessionRun}
-use Rattle.tdb_top.proofs.Runs.{Exits, refusal_status, log_exits, log_no_keep, refusal_apart, refused_seven, fault_exits, fault_no_done, fault_no_keep, memory_exits, memory_apart, memory_no_keep, opened_same, played_exits, played_kept, unheard_exits, malformed_exits, malformed_kept, malformed_four, either_not}
-use Rattle.tdb_top.proofs.Held.{same_held}
+use Rattle.tdb_answer.specs.Run.{HaltHeard, SessionBroken, SessionRun}
+use Rattle.tdb_answer.proofs.Runs.{Exits, refusal_status, log_exits, log_no_keep, refusal_apart, refused_seven, fault_exits, fault_no_done, fault_no_keep, memory_exits, memory_apart, memory_no_keep, opened_same, played_exits, played_kept, unheard_exits, malformed_exits, malformed_kept, malformed_four, either_not}
+use Rattle.tdb_answer.proofs.Held.{same_held}
 use Rattle.tdb_top.proofs.StopsServing.{begun_since, so_since, whole_since}
 
 module _ (limit : ℕ) (input : Input) (tells : Bool) (w0 w1 w2 : List ℕ) (f0 f1 f2 : ℕ) (old now : History) (logs later : List Logged) where

@@ -26,19 +26,19 @@ use Rattle.tdb_tool.specs.declared.order.Order.{Order}
 use Rattle.tdb_commands.specs.InLaw.{options_of}
 use Rattle.tdb_world.specs.Courses.Stops.{OpensOnTheWay}
 use Rattle.tdb_world.specs.Died.{IsReadAs}
-use Rattle.tdb_top.specs.declared.ending.Ending.{Ending}
-use Rattle.tdb_top.specs.declared.ending.Ending.TheVariants.{DeviceFault}
-use Rattle.tdb_top.specs.declared.ending.Unprinted.{Unprinted}
-use Rattle.tdb_top.specs.Commands.Session.{session_options, session_told, SessionOn, SessionFile, file_unopened, session_ran, SessionHeld}
-use Rattle.tdb_top.specs.Ending.{of_halt}
-use Rattle.tdb_top.specs.Input.{Input}
-use Rattle.tdb_top.specs.Looks.{ending_of}
+use Rattle.tdb_answer.specs.declared.ending.Ending.{Ending}
+use Rattle.tdb_answer.specs.declared.ending.Ending.TheVariants.{DeviceFault}
+use Rattle.tdb_answer.specs.declared.ending.Unprinted.{Unprinted}
+use Rattle.tdb_answer.specs.Commands.Session.{session_options, session_told, SessionOn, SessionFile, file_unopened, session_ran, SessionHeld}
+use Rattle.tdb_answer.specs.Ending.{of_halt}
+use Rattle.tdb_answer.specs.Input.{Input}
+use Rattle.tdb_answer.specs.Looks.{ending_of}
 use Rattle.tdb_open.specs.Opening.{opened_bytes, CanOpen, SameOrUndone}
 use Rattle.tdb_open.specs.Opening.{OpensSafely}
-use Rattle.tdb_top.specs.Safe.{StopsSince}
+use Rattle.tdb_answer.specs.Safe.{StopsSince}
 use Rattle.tdb_top.specs.SessionStops.{StopsOfSession, StopsServed}
 use Rattle.tdb_top.proofs.StopsServing.{begun_since}
-use Rattle.tdb_top.proofs.StopsTurning.{start_opens, fresh, few_chains, halted_same, kept_left}
+use Rattle.tdb_answer.proofs.StopsTurning.{start_opens, fresh, few_chains, halted_same, kept_left}
 
 -- a session over a file
 module _ (limit : ℕ) (input : Input) (old now : History) (told : Bool) (sound : Type 0) (before after : List ℕ) (logs later : List Logged) where

@@ -19,12 +19,12 @@ use Rattle.tdb_tool.specs.declared.fault.SessionEnd.{SessionEnd}
 use Rattle.tdb_tool.specs.declared.fault.SessionFault.{SessionFault}
 use Rattle.tdb_tool.specs.declared.order.Order.{Order}
 use Rattle.tdb_world.specs.Courses.Stops.{OpensOnTheWay}
-use Rattle.tdb_top.specs.Commands.Session.{session_options, SessionOn}
-use Rattle.tdb_top.specs.Input.{Input}
+use Rattle.tdb_answer.specs.Commands.Session.{session_options, SessionOn}
+use Rattle.tdb_answer.specs.Input.{Input}
 use Rattle.tdb_open.specs.Opening.{opened_bytes, CanOpen}
 use Rattle.tdb_open.specs.Opening.{OpensSafely}
-use Rattle.tdb_top.specs.Safe.{StopsSince}
-use Rattle.tdb_top.proofs.StopsTurning.{start_opens, opened_quiet}
+use Rattle.tdb_answer.specs.Safe.{StopsSince}
+use Rattle.tdb_answer.proofs.StopsTurning.{start_opens, opened_quiet}
 
 -- the opening of a file, and what is done by lines from a state over it
 module _ (options : Options) (old mid now : History) (can : CanOpen (seen old)) (safe : OpensSafely old mid) (opened : IsOpened options old mid) (f : Form) where

@@ -6,22 +6,22 @@ use Rattle.std.proofs.lemmas.List.{append-nil}
 use Rattle.tdb_disk.specs.History.{History}
 use Rattle.tdb_cmdline.specs.declared.ask.Task.{Task}
 use Rattle.tdb_cmdline.specs.declared.ask.Task.TheVariants.{Create, On, Read, Rescue, Print, Restore, Backup, Verify, Turns, Session, Generate}
-use Rattle.tdb_top.specs.declared.ending.Ending.{Ending}
-use Rattle.tdb_top.specs.declared.ending.Ending.TheVariants.{Replied, Refused}
-use Rattle.tdb_top.specs.declared.ending.Reply.TheVariants.{Played}
-use Rattle.tdb_top.specs.declared.ending.Unprinted.{Unprinted}
+use Rattle.tdb_answer.specs.declared.ending.Ending.{Ending}
+use Rattle.tdb_answer.specs.declared.ending.Ending.TheVariants.{Replied, Refused}
+use Rattle.tdb_answer.specs.declared.ending.Reply.TheVariants.{Played}
+use Rattle.tdb_answer.specs.declared.ending.Unprinted.{Unprinted}
 use Rattle.tdb_log.specs.Logs.{Logged}
 use Rattle.tdb_commands.specs.declared.options.Options.{Options}
 use Rattle.tdb_cmdline.specs.Ask.{Ask}
-use Rattle.tdb_top.specs.Commands.Turns.{PlaysSo, script_unread, script_bad, no_file, file_refused, file_opened, IsPlayed, AllPlayed}
-use Rattle.tdb_top.specs.Ending.{status_of, text_of, PrintedFor, Due}
-use Rattle.tdb_top.specs.Input.{Input}
-use Rattle.tdb_top.specs.Looks.{ending_of}
-use Rattle.tdb_top.specs.Output.{output_by}
-use Rattle.tdb_top.specs.Printed.{Finishes}
-use Rattle.tdb_top.specs.Run.{MayEnd, is_due, is_read, is_copied, is_verified, is_played, is_served, is_generated, call_failed, memory_wanting, log_failed}
-use Rattle.tdb_top.proofs.Held.{same_held}
-use Rattle.tdb_top.proofs.Runs.{refusal_status}
+use Rattle.tdb_answer.specs.Commands.Turns.{PlaysSo, script_unread, script_bad, no_file, file_refused, file_opened, IsPlayed, AllPlayed}
+use Rattle.tdb_answer.specs.Ending.{status_of, text_of, PrintedFor, Due}
+use Rattle.tdb_answer.specs.Input.{Input}
+use Rattle.tdb_answer.specs.Looks.{ending_of}
+use Rattle.tdb_answer.specs.Output.{output_by}
+use Rattle.tdb_answer.specs.Printed.{Finishes}
+use Rattle.tdb_answer.specs.Run.{MayEnd, is_due, is_read, is_copied, is_verified, is_played, is_served, is_generated, call_failed, memory_wanting, log_failed}
+use Rattle.tdb_answer.proofs.Held.{same_held}
+use Rattle.tdb_answer.proofs.Runs.{refusal_status}
 
 -- turns are no other task
 abbrev reads_turns : Task → Bool

@@ -8,26 +8,26 @@ use Rattle.tdb_disk.specs.Count.{Rose, HasCause}
 use Rattle.tdb_disk.specs.History.{History}
 use Rattle.tdb_cmdline.specs.declared.ask.Task.{Task}
 use Rattle.tdb_cmdline.specs.declared.ask.Task.TheVariants.{Create, On, Read, Rescue, Print, Restore, Backup, Verify, Turns, Session, Generate}
-use Rattle.tdb_top.specs.declared.ending.Ending.{Ending}
-use Rattle.tdb_top.specs.declared.ending.Ending.TheVariants.{Replied, Refused, Missing, There, Usage, DeviceFault, InputFault, Malformed, NoMemory, LogFault}
-use Rattle.tdb_top.specs.declared.ending.Unprinted.{Unprinted}
-use Rattle.tdb_top.specs.declared.ending.Unprinted.TheVariants as Rest
-use Rattle.tdb_top.specs.declared.ending.Reply.{Reply}
-use Rattle.tdb_top.specs.declared.ending.Reply.TheVariants as R
+use Rattle.tdb_answer.specs.declared.ending.Ending.{Ending}
+use Rattle.tdb_answer.specs.declared.ending.Ending.TheVariants.{Replied, Refused, Missing, There, Usage, DeviceFault, InputFault, Malformed, NoMemory, LogFault}
+use Rattle.tdb_answer.specs.declared.ending.Unprinted.{Unprinted}
+use Rattle.tdb_answer.specs.declared.ending.Unprinted.TheVariants as Rest
+use Rattle.tdb_answer.specs.declared.ending.Reply.{Reply}
+use Rattle.tdb_answer.specs.declared.ending.Reply.TheVariants as R
 use Rattle.tdb_cmdline.specs.declared.look.Look.{Look}
 use Rattle.tdb_cmdline.specs.declared.look.Look.TheVariants.{Dump, Value}
 use Rattle.tdb_cmdline.specs.Ask.{Ask}
-use Rattle.tdb_top.specs.Ending.{TakesMemory, PrintedFor, text_of}
-use Rattle.tdb_top.specs.Output.{output_by}
-use Rattle.tdb_top.specs.Looks.{LookText, StandsBefore, before_reply, rest_of, ending_of, Began}
+use Rattle.tdb_answer.specs.Ending.{TakesMemory, PrintedFor, text_of}
+use Rattle.tdb_answer.specs.Output.{output_by}
+use Rattle.tdb_answer.specs.Looks.{LookText, StandsBefore, before_reply, rest_of, ending_of, Began}
 use Rattle.tdb_cmdline.specs.declared.printout.Printout.{Printout}
-use Rattle.tdb_top.specs.Commands.Print.{PrintText}
-use Rattle.tdb_top.specs.Commands.Rescue.{RescueText}
-use Rattle.tdb_top.specs.Commands.Session.{SessionText}
-use Rattle.tdb_top.specs.Commands.Turns.{TurnsText}
+use Rattle.tdb_answer.specs.Commands.Print.{PrintText}
+use Rattle.tdb_answer.specs.Commands.Rescue.{RescueText}
+use Rattle.tdb_answer.specs.Commands.Session.{SessionText}
+use Rattle.tdb_answer.specs.Commands.Turns.{TurnsText}
 use Rattle.tdb_commands.specs.declared.options.Options.{Options}
-use Rattle.tdb_top.specs.Printed.{TaskText, TextBefore, task_tells, ask_tells, IsSilent, Finishes, Writes}
-use Rattle.tdb_top.proofs.Verifying.{front_wanting}
+use Rattle.tdb_answer.specs.Printed.{TaskText, TextBefore, task_tells, ask_tells, IsSilent, Finishes, Writes}
+use Rattle.tdb_answer.proofs.Verifying.{front_wanting}
 
 -- before a line that takes memory stands nothing, so nothing stands before the line that tells of its want
 reply_wanting : (text written : List ℕ) (r : Reply) → TakesMemory (Replied r) → written ≡ before_reply r text → written ≡ []

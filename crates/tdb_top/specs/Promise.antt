@@ -2,12 +2,12 @@
 use Rattle.std.specs.Prelude.{ℕ, List, Bool, IsTrue, String}
 use Rattle.std.specs.Global.{Global}
 use Rattle.tdb_log.specs.Logs.{Logged}
-use Rattle.tdb_top.specs.Input.{input_by}
-use Rattle.tdb_top.specs.Output.{output_by}
+use Rattle.tdb_answer.specs.Input.{input_by}
+use Rattle.tdb_answer.specs.Output.{output_by}
 use Rattle.tdb_top.specs.Outside.{Outside}
-use Rattle.tdb_top.specs.Run.{Run, run_by, Answered, RefusesExactly, LeavesFiles, LogsAreTold, Accounted}
+use Rattle.tdb_answer.specs.Run.{Run, run_by, Answered, RefusesExactly, LeavesFiles, LogsAreTold, Accounted}
 use Rattle.tdb_top.specs.SessionStops.{SessionsStopSafely}
-use Rattle.tdb_top.specs.Stops.{TurnsStopSafely}
+use Rattle.tdb_answer.specs.Stops.{TurnsStopSafely}
 
 -- A run, whose files tell what they hold or don't, and its logs before it and after it.
 -- It ends in one way and prints the line of that, behind the text of a dump or of a report; where the files tell what

@@ -8,13 +8,13 @@ use Rattle.tdb_cmdline.specs.declared.ask.Task.TheVariants.{Session}
 use Rattle.tdb_tool.specs.Asking.{BeginsBy}
 use Rattle.tdb_tool.specs.Whole.{SessionCame}
 use Rattle.tdb_tool.specs.declared.order.Order.{Order}
-use Rattle.tdb_top.specs.Commands.Session.{session_options}
+use Rattle.tdb_answer.specs.Commands.Session.{session_options}
 use Rattle.tdb_open.specs.Loading.{OpensToTurn}
-use Rattle.tdb_top.specs.Input.{Input}
+use Rattle.tdb_answer.specs.Input.{Input}
 use Rattle.tdb_open.specs.Opening.{opened_bytes}
-use Rattle.tdb_top.specs.Run.{Run}
-use Rattle.tdb_top.specs.Safe.{StopsSince, IsLeftAs}
-use Rattle.tdb_top.specs.Stops.{WroteLine}
+use Rattle.tdb_answer.specs.Run.{Run}
+use Rattle.tdb_answer.specs.Safe.{StopsSince, IsLeftAs}
+use Rattle.tdb_answer.specs.Stops.{WroteLine}
 
 -- The text of the input begins by asking for orders, and a session of them came so far, from a world just loaded over
 -- the bytes that the file was read as at first; a front of its text was printed. Where the disk is sound, it came to a

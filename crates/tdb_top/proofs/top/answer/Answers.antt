@@ -2,24 +2,24 @@ use Rattle.std.proofs.Common.{◌≡◌, Option, Some, Ok, map, string_bytes, re
 use Rattle.std.specs.Prelude.{IsTrue, unwrap_or}
 use Rattle.tdb_disk.specs.Count.{Rose}
 use Rattle.tdb_cmdline.specs.declared.ask.Task.TheVariants.{Turns}
-use Rattle.tdb_top.specs.declared.ending.Ending.TheVariants.{Replied, Usage, NoMemory}
-use Rattle.tdb_top.specs.declared.ending.Reply.TheVariants.{Played}
-use Rattle.tdb_top.specs.Ending.{Due}
-use Rattle.tdb_top.specs.Input.{input_by}
-use Rattle.tdb_top.specs.Reads.{ask_reads}
-use Rattle.tdb_top.specs.Looks.{ending_of, Began}
-use Rattle.tdb_top.specs.Printed.{TaskText, TextBefore, ask_tells}
-use Rattle.tdb_top.specs.Run.{is_due, memory_wanting}
+use Rattle.tdb_answer.specs.declared.ending.Ending.TheVariants.{Replied, Usage, NoMemory}
+use Rattle.tdb_answer.specs.declared.ending.Reply.TheVariants.{Played}
+use Rattle.tdb_answer.specs.Ending.{Due}
+use Rattle.tdb_answer.specs.Input.{input_by}
+use Rattle.tdb_answer.specs.Reads.{ask_reads}
+use Rattle.tdb_answer.specs.Looks.{ending_of, Began}
+use Rattle.tdb_answer.specs.Printed.{TaskText, TextBefore, ask_tells}
+use Rattle.tdb_answer.specs.Run.{is_due, memory_wanting}
 use Rattle.tdb_cmdline.specs.Ask.{Ask, asked, ask_of}
-use Rattle.tdb_top.specs.Left.{Leaving}
-use Rattle.tdb_top.specs.Stops.{StopsScripted}
-use Rattle.tdb_top.specs.Heard.{AskHeard}
-use Rattle.tdb_top.proofs.Acting.{words_want, not_heard}
-use Rattle.tdb_top.proofs.Hearing.{ask_unheard}
-use Rattle.tdb_top.proofs.Looking.{nothing, began_as}
-use Rattle.tdb_top.proofs.Runs.{asked_cause}
-use Rattle.tdb_top.proofs.Sessions.{wants_held}
-use Rattle.tdb_top.proofs.StopsTurning.{unscripted_stops}
+use Rattle.tdb_answer.specs.Left.{Leaving}
+use Rattle.tdb_answer.specs.Stops.{StopsScripted}
+use Rattle.tdb_answer.specs.Heard.{AskHeard}
+use Rattle.tdb_answer.proofs.Acting.{words_want, not_heard}
+use Rattle.tdb_answer.proofs.Hearing.{ask_unheard}
+use Rattle.tdb_answer.proofs.Looking.{nothing, began_as}
+use Rattle.tdb_answer.proofs.Runs.{asked_cause}
+use Rattle.tdb_answer.proofs.Sessions.{wants_held}
+use Rattle.tdb_answer.proofs.StopsTurning.{unscripted_stops}
 use Rattle.tdb_top.proofs.Writing.{nothing_before}
 use Rattle.tdb_top.proofs.top.answer.Goals as goal
 

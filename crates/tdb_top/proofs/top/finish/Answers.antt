@@ -1,9 +1,9 @@
 use Rattle.std.proofs.Common.{refl, sym, subst, inl}
-use Rattle.tdb_top.specs.declared.ending.Ending.{Ending as EndingIs}
-use Rattle.tdb_top.specs.Ending.{PrintedFor}
-use Rattle.tdb_top.specs.Output.{output_by}
-use Rattle.tdb_top.specs.Looks.{rest_of, ending_of}
-use Rattle.tdb_top.specs.Printed.{Finishes}
+use Rattle.tdb_answer.specs.declared.ending.Ending.{Ending as EndingIs}
+use Rattle.tdb_answer.specs.Ending.{PrintedFor}
+use Rattle.tdb_answer.specs.Output.{output_by}
+use Rattle.tdb_answer.specs.Looks.{rest_of, ending_of}
+use Rattle.tdb_answer.specs.Printed.{Finishes}
 use Rattle.tdb_top.proofs.top.finish.Goals as goal
 
 -- the output failed in the text

@@ -1,18 +1,18 @@
 use Rattle.std.proofs.Common.{◌≡◌, true, Ok}
 use Rattle.std.specs.Prelude.{IsTrue}
 use Rattle.tdb_disk.specs.Count.{Rose}
-use Rattle.tdb_top.specs.declared.ending.Ending.TheVariants.{Replied}
-use Rattle.tdb_top.specs.declared.ending.Reply.TheVariants.{Played}
-use Rattle.tdb_top.specs.Output.{output_by}
-use Rattle.tdb_top.specs.Input.{input_by}
-use Rattle.tdb_top.specs.Looks.{ending_of}
-use Rattle.tdb_top.specs.Run.{Run, Cause, Answered, RefusesExactly, LeavesFiles, LogsAreTold, Accounted, run_by}
+use Rattle.tdb_answer.specs.declared.ending.Ending.TheVariants.{Replied}
+use Rattle.tdb_answer.specs.declared.ending.Reply.TheVariants.{Played}
+use Rattle.tdb_answer.specs.Output.{output_by}
+use Rattle.tdb_answer.specs.Input.{input_by}
+use Rattle.tdb_answer.specs.Looks.{ending_of}
+use Rattle.tdb_answer.specs.Run.{Run, Cause, Answered, RefusesExactly, LeavesFiles, LogsAreTold, Accounted, run_by}
 use Rattle.tdb_top.specs.SessionStops.{SessionsStopSafely}
-use Rattle.tdb_top.specs.Stops.{TurnsStopSafely}
-use Rattle.tdb_top.proofs.Runs.{Printed, exits, silent_exits, printed_caused, exactly, refuses_exactly, summary_shown, asked_counted, asked_failed, asked_sound, leaves_files, accounted}
+use Rattle.tdb_answer.specs.Stops.{TurnsStopSafely}
+use Rattle.tdb_answer.proofs.Runs.{Printed, exits, silent_exits, printed_caused, exactly, refuses_exactly, summary_shown, asked_counted, asked_failed, asked_sound, leaves_files, accounted}
 use Rattle.tdb_top.proofs.SessionRuns.{session_by}
 use Rattle.tdb_top.proofs.SessionsStopped.{held_served}
-use Rattle.tdb_top.proofs.StopsTurning.{line_behind, stops_when}
+use Rattle.tdb_answer.proofs.StopsTurning.{line_behind, stops_when}
 use Rattle.tdb_top.proofs.Whole.{whole_by, zero_played}
 use Rattle.tdb_top.proofs.Writing.{written}
 use Rattle.tdb_top.proofs.top.run.Goals as goal

@@ -1,0 +1,163 @@
+-- A new file holds no pair; and a sync leaves what was restored.
+use Rattle.std.proofs.Common.{◌≡◌, ℕ, ◌^◌, ◌<◌, ◌≤◌, List, [], Option, None, Some, length, refl, sym, ◌∙◌, ap, subst, inl, inr, arith}
+use Rattle.std.specs.Prelude.{IsTrue, IsSome}
+use Rattle.std.specs.Map.{lookup}
+use Rattle.std.proofs.lemmas.Bool.{false≢true}
+use Rattle.tdb_words.specs.declared.word.Order.TheVariants.{Little}
+use Rattle.tdb_words.specs.declared.hash.HashKind.TheVariants.{Old}
+use Rattle.tdb_disk.specs.Count.{Rose}
+use Rattle.tdb_disk.specs.History.{History, seen, synced, called}
+use Rattle.tdb_disk.specs.declared.files.TakeRefusal.{TakeRefusal}
+use Rattle.tdb_disk.specs.declared.files.TakeRefusal.TheVariants as Take
+use Rattle.tdb_disk.proofs.Runs.{quiet_synced}
+use Rattle.tdb_space.specs.Pairs.{order_of, same_key}
+use Rattle.tdb_space.specs.Accepted.{AcceptWith}
+use Rattle.tdb_backup.specs.Building.{HoldsPairs}
+use Rattle.tdb_backup.specs.Restoring.{Restored}
+use Rattle.tdb_backup.specs.declared.refusal.RestoreRefusal.{RestoreRefusal}
+use Rattle.tdb_backup.specs.declared.refusal.RestoreRefusal.TheVariants as R
+use Rattle.tdb_cmdline.specs.declared.limits.TheConstants.{DEFAULT_SIZE}
+use Rattle.tdb_open.specs.Creating.{IsNewFile}
+use Rattle.tdb_cmdline.specs.declared.ask.Task.{Task}
+use Rattle.tdb_cmdline.specs.declared.ask.Task.TheVariants.{Restore}
+use Rattle.tdb_answer.specs.declared.ending.Ending.{Ending}
+use Rattle.tdb_answer.specs.declared.ending.Ending.TheVariants as E
+use Rattle.tdb_answer.specs.declared.ending.Reply.TheVariants as Reply
+use Rattle.tdb_answer.specs.Commands.Restore.{new_form, IsRestored, TextRefused, of_restore, ReadSo, read_whole, read_refused, HeardBy}
+use Rattle.tdb_answer.specs.Ending.{status_of, Untaken, TaskDue, TaskCause, task_due, task_failed, task_wanting, CountedBy}
+use Rattle.tdb_answer.specs.Input.{Input}
+use Rattle.tdb_answer.specs.Left.{RestoreLeaves}
+use Rattle.tdb_answer.specs.Reads.{AskCause}
+use Rattle.tdb_answer.proofs.Acting.{rose_earlier}
+
+module _ (img : List ℕ) (file : IsNewFile DEFAULT_SIZE Little Old img) where
+  pub holds_nothing : HoldsPairs new_form img []
+  holds_nothing = record {
+    accepted = subst (λ f. AcceptWith f img []) file.form file.accepted;
+    map = λ k. ap (lookup (same_key k)) (subst (λ f. order_of f img ≡ []) file.form file.empty);
+  }
+
+  -- and is short enough
+  pub new_short : (size : ℕ) → length img ≡ size → size < 2 ^ 32
+  new_short size is = omega (arith, is, file.long)
+
+-- a sync puts what was restored on the medium
+pub restored_synced : (text : List ℕ) (old now : History) → Restored new_form (seen old) text → now ≡ called old synced → IsRestored text now
+restored_synced text old now restored done = record {
+  restored = subst (λ img. Restored new_form img text) (sym (ap seen done)) restored;
+  quiet = quiet_synced old now done;
+}
+
+-- nothing is held where it isn't so that something is
+pub none_held : (held : Option History) → (IsSome held → ⊥) → held ≡ None
+none_held None other = refl
+none_held (Some h) other = absurd (other refl)
+
+module _ (input : Input) (limit : ℕ) (name : List ℕ) (held : Option History) (before after : ℕ) (fresh : held ≡ None) where
+  by_input : (e : Ending) → ReadSo input limit e → AskCause input (Restore limit) name held before after e
+  by_input e read = inr (inl (record { limit = limit; restores = refl; none = fresh; read = read }))
+
+  -- all pairs came into the file
+  pub whole_cause : (IsTrue input.tells → (img : List ℕ) × Restored new_form img input.text) → AskCause input (Restore limit) name held before after (E.Replied Reply.Restored)
+  whole_cause whole = by_input (E.Replied Reply.Restored) (read_whole whole)
+
+  refusal_cause : (r : RestoreRefusal) → CountedBy before after (of_restore r) → (IsTrue input.tells → TextRefused input.text limit r) → (r ≡ R.Input → Rose input.faults_before input.faults_after)
+      → AskCause input (Restore limit) name held before after (of_restore r)
+  refusal_cause R.Io counted text rose = inl (task_failed (counted.failed refl))
+  refusal_cause R.Input counted text rose = by_input E.InputFault (read_refused R.Input (λ e. cc) text rose)
+  refusal_cause (R.Malformed at) counted text rose = by_input (E.Malformed at) (read_refused (R.Malformed at) (λ e. cc) text rose)
+  refusal_cause (R.Full len need) counted text rose = by_input (E.Replied (Reply.Full len need)) (read_refused (R.Full len need) (λ e. cc) text rose)
+  refusal_cause R.Memory counted text rose = by_input E.NoMemory (read_refused R.Memory (λ e. cc) text rose)
+
+  -- they didn't
+  pub refused_cause : (r : RestoreRefusal) (e : Ending) → e ≡ of_restore r → CountedBy before after e → (IsTrue input.tells → TextRefused input.text limit r) → (r ≡ R.Input → Rose input.faults_before input.faults_after)
+      → AskCause input (Restore limit) name held before after e
+  refused_cause r e is counted text rose =
+      subst (AskCause input (Restore limit) name held before after) (sym is) (refusal_cause r (subst (CountedBy before after) is counted) text rose)
+
+-- a file that wasn't taken, and that a task was to make
+pub untaken_new : (task : Task) (name : List ℕ) (held : Option History) (before after : ℕ) → ((h : History) → TaskDue task name (Some h) (E.There name)) → (refusal : TakeRefusal) (e : Ending) → (refusal ≡ Take.Missing → ⊥) → (refusal ≡ Take.There → IsSome held) → (refusal ≡ Take.Failed → Rose before after)
+    → Untaken name refusal e → TaskCause task name held before after e
+untaken_new task name held before after due Take.Missing e free some rose is = absurd (free refl)
+untaken_new task name held before after due Take.There e free some rose (inl is) = subst (TaskCause task name held before after) (sym is) (task_due (E.There name) (there held (some refl)))
+  where
+    there : (o : Option History) → IsSome o → TaskDue task name o (E.There name)
+    there None some = absurd (false≢true some)
+    there (Some h) some = due h
+untaken_new task name held before after due Take.There e free some rose (inr is) = subst (TaskCause task name held before after) (sym is) task_wanting
+untaken_new task name held before after due Take.Failed e free some rose is = subst (TaskCause task name held before after) (sym is) (task_failed (rose refl))
+untaken_new task name held before after due Take.Memory e free some rose is = subst (TaskCause task name held before after) (sym is) task_wanting
+
+-- the ending of a refusal has a status of its own, and isn't the usage
+refusal_status : (r : RestoreRefusal) → status_of (of_restore r) ≡ 0 → ⊥
+refusal_status R.Io is = absurd (omega (arith, is))
+refusal_status R.Input is = absurd (omega (arith, is))
+refusal_status (R.Malformed at) is = absurd (omega (arith, is))
+refusal_status (R.Full len need) is = absurd (omega (arith, is))
+refusal_status R.Memory is = absurd (omega (arith, is))
+
+refusal_asked : (r : RestoreRefusal) → of_restore r ≡ E.Usage → ⊥
+refusal_asked R.Io is = cc
+refusal_asked R.Input is = cc
+refusal_asked (R.Malformed at) is = cc
+refusal_asked (R.Full len need) is = cc
+refusal_asked R.Memory is = cc
+
+pub refused_asked : (r : RestoreRefusal) (e : Ending) → e ≡ of_restore r → e ≡ E.Usage → ⊥
+refused_asked r e is usage = refusal_asked r (sym is ∙ usage)
+
+-- nor one of a log
+refusal_unlogged : (r : RestoreRefusal) → of_restore r ≡ E.LogFault → ⊥
+refusal_unlogged R.Io is = cc
+refusal_unlogged R.Input is = cc
+refusal_unlogged (R.Malformed at) is = cc
+refusal_unlogged (R.Full len need) is = cc
+refusal_unlogged R.Memory is = cc
+
+pub refused_unlogged : (r : RestoreRefusal) (e : Ending) → e ≡ of_restore r → e ≡ E.LogFault → ⊥
+refused_unlogged r e is logged = refusal_unlogged r (sym is ∙ logged)
+
+-- what is left where the file is gone again
+pub removed_left : (input : Input) (held now : Option History) (r : RestoreRefusal) (e : Ending) → held ≡ None → now ≡ None → e ≡ of_restore r → RestoreLeaves input held e now
+removed_left input held now r e fresh gone is = record {
+  left = inl (gone ∙ sym fresh);
+  done = λ nil. absurd (refusal_status r (sym (ap status_of is) ∙ nil));
+  there = λ some. absurd (false≢true (subst IsSome fresh some));
+}
+
+-- a call that failed leaves anything where nothing was
+pub failed_left : (input : Input) (held now : Option History) → held ≡ None → RestoreLeaves input held E.DeviceFault now
+failed_left input held now fresh = record {
+  left = inr (inr refl);
+  done = λ is. absurd (omega (arith, is));
+  there = λ some. absurd (false≢true (subst IsSome fresh some));
+}
+
+-- how often the disk and the input failed
+refusal_counted : (start last : ℕ) (r : RestoreRefusal) → start ≤ last → (r ≡ R.Io → Rose start last) → ((r ≡ R.Io → ⊥) → last ≡ start) → CountedBy start last (of_restore r)
+refusal_counted start last R.Io low failed refused = record { never_falls = low; failed = λ is. failed refl; sound = λ other. absurd (other refl) }
+refusal_counted start last R.Input low failed refused = record { never_falls = low; failed = λ is. cc; sound = λ other. refused (λ e. cc) }
+refusal_counted start last (R.Malformed at) low failed refused = record { never_falls = low; failed = λ is. cc; sound = λ other. refused (λ e. cc) }
+refusal_counted start last (R.Full len need) low failed refused = record { never_falls = low; failed = λ is. cc; sound = λ other. refused (λ e. cc) }
+refusal_counted start last R.Memory low failed refused = record { never_falls = low; failed = λ is. cc; sound = λ other. refused (λ e. cc) }
+
+pub refused_counted : (start last : ℕ) (r : RestoreRefusal) (e : Ending) → e ≡ of_restore r → start ≤ last → (r ≡ R.Io → Rose start last) → ((r ≡ R.Io → ⊥) → last ≡ start) → CountedBy start last e
+refused_counted start last r e is low failed refused = subst (CountedBy start last) (sym is) (refusal_counted start last r low failed refused)
+
+-- a call of the files failed at the end
+pub failed_counted : (before mid after : ℕ) → before ≤ mid → mid ≤ after → Rose mid after → CountedBy before after E.DeviceFault
+failed_counted before mid after later last rose = record {
+  never_falls = omega (arith, later, last);
+  failed = λ is. rose_earlier before mid after later rose;
+  sound = λ other. absurd (other refl);
+}
+
+refusal_heard : (start last : ℕ) (r : RestoreRefusal) → (r ≡ R.Input → Rose start last) → ((r ≡ R.Input → ⊥) → last ≡ start) → HeardBy start last (of_restore r)
+refusal_heard start last R.Input failed refused = record { failed = λ is. failed refl; told = inr (inl refl) }
+refusal_heard start last R.Io failed refused = record { failed = λ is. cc; told = inl (refused (λ e. cc)) }
+refusal_heard start last (R.Malformed at) failed refused = record { failed = λ is. cc; told = inl (refused (λ e. cc)) }
+refusal_heard start last (R.Full len need) failed refused = record { failed = λ is. cc; told = inl (refused (λ e. cc)) }
+refusal_heard start last R.Memory failed refused = record { failed = λ is. cc; told = inl (refused (λ e. cc)) }
+
+pub refused_heard : (start last : ℕ) (r : RestoreRefusal) (e : Ending) → e ≡ of_restore r → (r ≡ R.Input → Rose start last) → ((r ≡ R.Input → ⊥) → last ≡ start) → HeardBy start last e
+refused_heard start last r e is failed refused = subst (HeardBy start last) (sym is) (refusal_heard start last r failed refused)

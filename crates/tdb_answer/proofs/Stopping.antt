@@ -1,0 +1,267 @@
+-- What stops leave while plays are taken and told, from play to play.
+use Rattle.std.proofs.Common.{◌≡◌, ℕ, zero, suc, List, [], ◌++◌, take, Result, Ok, Err, refl, sym, ◌∙◌, ap, subst, inl, inr, arith}
+use Rattle.std.specs.Prelude.{Bool, IsTrue, OnOk, OnErr}
+use Rattle.std.proofs.lemmas.List.{append_assoc, append-nil, map-append}
+use Rattle.tdb_disk.specs.History.{History, seen}
+use Rattle.tdb_disk.specs.Stop.{LeavesOnly}
+use Rattle.tdb_disk.proofs.Runs.{leaves_join, leaves_start, leaves_weaker}
+use Rattle.tdb_space.specs.Form.{Form}
+use Rattle.tdb_space.specs.Opening.{restored}
+use Rattle.tdb_space.specs.Undoing.{Reopens}
+use Rattle.tdb_backup.specs.Dump.{WroteFront}
+use Rattle.tdb_dump.specs.declared.writer.WriteRefusal.{WriteRefusal}
+use Rattle.tdb_dump.specs.declared.writer.WriteRefusal.TheVariants as Untold
+use Rattle.tdb_law.specs.Lines.{Line as LawLine}
+use Rattle.tdb_law.specs.Plays.{Play as LawPlay, Course}
+use Rattle.tdb_law.specs.World.{State}
+use Rattle.tdb_commands.specs.InLaw.{law_play, law_plays, law_line, law_lines}
+use Rattle.tdb_commands.specs.declared.line.Line.{Line}
+use Rattle.tdb_commands.specs.declared.play.Play.{Play}
+use Rattle.tdb_script.specs.Text.{report_text}
+use Rattle.tdb_openers.specs.Played.{ComesTo, UnlessIo}
+use Rattle.tdb_openers.specs.declared.fault.RunFault.{RunFault}
+use Rattle.tdb_openers.specs.declared.fault.RunFault.TheVariants as Run
+use Rattle.tdb_world.specs.Died.{IsReadAs}
+use Rattle.tdb_world.specs.States.{IsStateOf}
+use Rattle.tdb_world.specs.Stops.{IsSafe}
+use Rattle.tdb_world.specs.Whole.{Whole, form_at}
+use Rattle.tdb_world.proofs.Reopening.{state_reopens}
+use Rattle.tdb_world.specs.Courses.Hearing.{RunsAsTold}
+use Rattle.tdb_world.specs.OverFile.{OverFile, HasState, moment_of}
+use Rattle.tdb_world.specs.Courses.Led.{Comes, Led}
+use Rattle.tdb_world.specs.Courses.Stops.{IsTransacted, Leads, OpensOnTheWay, Passes, StopsLed}
+use Rattle.tdb_world.specs.Courses.Unfinished.{AreUnfinished}
+use Rattle.tdb_openers.proofs.Joining.Courses.{course_join}
+use Rattle.tdb_world.proofs.Courses.Coming.{whole_comes, comes_more, comes_after}
+use Rattle.tdb_tool.proofs.Telling.{front_after}
+use Rattle.tdb_log.specs.Logs.{Logged}
+use Rattle.tdb_log.specs.declared.log.LogRefusal.{LogRefusal}
+use Rattle.tdb_open.specs.Opening.{log_fault}
+use Rattle.tdb_open.specs.declared.halt.Fault.TheVariants as F
+use Rattle.tdb_answer.specs.declared.ending.Unprinted.TheVariants as Rest
+use Rattle.tdb_world.specs.Courses.Scene.{Scene, scene, IsStateAt}
+use Rattle.tdb_answer.specs.Playing.{PlaysEnd, UnlessBroken, OnBroken, end_of}
+use Rattle.tdb_answer.specs.Stops.{LeavesOnTheWay, StopsTold, StopsOver, OnlyUnfinished, WroteOf, WroteWhole}
+use Rattle.tdb_answer.proofs.Coming.{front_either, text_more, unless_end, unless_map, unless_sound}
+
+-- what leads on, and then further
+leads_join : (f : Form) (old mid new : State) (front rest : List LawLine) → Leads f old front mid → Leads f mid rest new → Leads f old (front ++ rest) new
+leads_join f old mid new front rest L M = (L.0 ++ M.0, course_join f L.0 M.0 old mid new front rest L.1 M.1)
+
+-- a report passes the state that it begins with
+pub passes_start : (f : Form) (old : State) (lines : List LawLine) → Passes f old lines old
+passes_start f old lines = record { front = []; rest = lines; parts = refl; leads = ([], (refl, refl)) }
+
+-- a report that goes on in another one passes what both pass, so it is calm where both are
+module _ (f : Form) (old mid : State) (front rest : List LawLine) where
+  front_passes : (s : State) → Passes f old front s → Passes f old (front ++ rest) s
+  front_passes s P = record { front = P.front; rest = P.rest ++ rest; parts = ap (λ ls. ls ++ rest) P.parts ∙ append_assoc P.front P.rest rest; leads = P.leads }
+
+  calm_front : IsTransacted f old (front ++ rest) → IsTransacted f old front
+  calm_front calm s o P = calm s o (front_passes s P)
+
+  front_opens : (c : List ℕ) → OpensOnTheWay f old front c → OpensOnTheWay f old (front ++ rest) c
+  front_opens c w = (w.0, w.1, front_passes w.0 w.2, w.3)
+
+  module _ (L : Leads f old front mid) where
+    rest_passes : (s : State) → Passes f mid rest s → Passes f old (front ++ rest) s
+    rest_passes s P = record {
+      front = front ++ P.front;
+      rest = P.rest;
+      parts = ap (λ ls. front ++ ls) P.parts ∙ sym (append_assoc front P.front P.rest);
+      leads = leads_join f old mid s front P.front L P.leads;
+    }
+
+    calm_rest : IsTransacted f old (front ++ rest) → IsTransacted f mid rest
+    calm_rest calm s o P = calm s o (rest_passes s P)
+
+    rest_opens : (c : List ℕ) → OpensOnTheWay f mid rest c → OpensOnTheWay f old (front ++ rest) c
+    rest_opens c w = (w.0, w.1, rest_passes w.0 w.2, w.3)
+
+-- where nothing is done yet a stop leaves a file that opens to the world's state
+here_opens : (w : Whole) (h : History) (state : State) (lines : List LawLine) (c : List ℕ) → IsStateOf w h state → Reopens (restored (form_at w) (seen h)) c → OpensOnTheWay (form_at w) state lines c
+here_opens w h state lines c is reopens =
+    let read = state_reopens w h state is in
+    (state, 0, passes_start (form_at w) state lines, inl (record { image = restored (form_at w) (seen h); reopens = reopens; file = read.file; number = read.number }))
+
+module _ (disk_tells told : Bool) where
+  -- no play was taken
+  pub stops_none : (start : Scene) → StopsTold disk_tells told start start [] (Ok (Ok tt))
+  stops_none start = record {
+    lines = [];
+    whole = λ is out. sym (append-nil start.written);
+    front = λ out. (0, omega arith, sym (append-nil start.written));
+    all = λ is heard state at. (state, at, (refl, refl));
+    left = λ heard state at. (state, at, whole_comes (form_at start.over.world) [] state state [] (refl, refl));
+    stops = λ heard state is safe calm. record {
+      stops = leaves_start start.over.history _ (λ c left. here_opens start.over.world start.over.history state [] c is (safe c left));
+      left = (state, is, ([], (refl, refl)), safe);
+    };
+  }
+
+  -- plays, and then others
+  module _ (start mid new : Scene) (plays more : List Play) (same : form_at mid.over.world ≡ form_at start.over.world) (answer : PlaysEnd) (first : StopsTold disk_tells told start mid plays (Ok (Ok tt))) (next : StopsTold disk_tells told mid new more answer) where
+    abbrev f : Form
+    f = form_at start.over.world
+
+    abbrev both : List Line
+    both = first.lines ++ next.lines
+
+    abbrev split : law_lines both ≡ law_lines first.lines ++ law_lines next.lines
+    split = map-append law_line first.lines next.lines
+
+    -- what is so of both lists of plays, and of both lists of lines, is so of them together
+    joined : (P : List LawPlay → List LawLine → Type 0) → P (law_plays plays ++ law_plays more) (law_lines first.lines ++ law_lines next.lines) → P (law_plays (plays ++ more)) (law_lines both)
+    joined P = subst (λ (q : List LawPlay × List LawLine). P q.0 q.1) (λ j. (sym (map-append law_play plays more) j, sym split j))
+
+    all_both : answer ≡ Ok (Ok tt) → IsTrue disk_tells → (state : State) → IsStateAt start state
+        → (after : State) × IsStateAt new after × Course f state (law_plays (plays ++ more)) (law_lines both) after
+    all_both is heard state at =
+        let p = first.all refl heard state at in
+        let q = subst (λ g. (after : State) × IsStateAt new after × Course g p.0 (law_plays more) (law_lines next.lines) after) same (next.all is heard p.0 p.1) in (
+          q.0,
+          q.1,
+          joined (λ ps ls. Course f state ps ls q.0) (course_join f (law_plays plays) (law_plays more) state p.0 q.0 (law_lines first.lines) (law_lines next.lines) p.2 q.2),
+        )
+
+    left_both : IsTrue disk_tells → (state : State) → IsStateAt start state
+        → UnlessBroken answer ((after : State) × IsStateAt new after × ComesTo f state (law_plays (plays ++ more)) (law_lines both) after)
+    left_both heard state at =
+        let p = first.all refl heard state at in
+        unless_map answer
+        (λ q. (q.0, q.1, joined (λ ps ls. ComesTo f state ps ls q.0) (comes_after f (law_plays plays) (law_plays more) state p.0 q.0 (law_lines first.lines) (law_lines next.lines) p.2 q.2)))
+        (subst (λ g. UnlessBroken answer ((after : State) × IsStateAt new after × ComesTo g p.0 (law_plays more) (law_lines next.lines) after)) same (next.left heard p.0 p.1))
+
+    -- what stops leave after a state, in a form
+    abbrev Goes-on : Form → State → Type 0
+    Goes-on f s =
+        LeavesOnly mid.over.history new.over.history (OpensOnTheWay f s (law_lines next.lines))
+        × UnlessBroken answer ((after : State) × IsStateAt new after × Leads f s (law_lines next.lines) after × IsSafe f new.over.history)
+
+    goes_on : IsTrue disk_tells → (s : State) → IsStateAt mid s → IsSafe f mid.over.history → IsTransacted f s (law_lines next.lines) → Goes-on f s
+    goes_on heard s is = subst (λ g. IsSafe g mid.over.history → IsTransacted g s (law_lines next.lines) → Goes-on g s) same (λ safe calm. (let n = next.stops heard s is safe calm in (n.stops, n.left)))
+
+    stops_both : IsTrue disk_tells → (state : State) → IsStateAt start state → IsSafe f start.over.history → IsTransacted f state (law_lines both) → LeavesOnTheWay start new answer state both
+    stops_both heard state is safe calm =
+        let ls = law_lines first.lines in
+        let ms = law_lines next.lines in
+        let c : IsTransacted f state (ls ++ ms) = subst (IsTransacted f state) split calm in
+        let a = first.stops heard state is safe (calm_front f state state ls ms c) in
+        let s = a.left.0 in
+        let L : Leads f state ls s = a.left.2 in
+        let b = goes_on heard s a.left.1 a.left.3 (calm_rest f state s ls ms L c) in
+        record {
+          stops = subst (λ x. LeavesOnly start.over.history new.over.history (OpensOnTheWay f state x)) (sym split)
+              (leaves_join start.over.history mid.over.history new.over.history (OpensOnTheWay f state (ls ++ ms))
+              (leaves_weaker start.over.history mid.over.history (OpensOnTheWay f state ls) (OpensOnTheWay f state (ls ++ ms)) (front_opens f state s ls ms) a.stops)
+              (leaves_weaker mid.over.history new.over.history (OpensOnTheWay f s ms) (OpensOnTheWay f state (ls ++ ms)) (rest_opens f state s ls ms L) b.0));
+          left = unless_map answer (λ q. (q.0, q.1, subst (λ x. Leads f state x q.0) (sym split) (leads_join f state s q.0 ls ms L q.2), q.3)) b.1;
+        }
+
+    pub stops_on : StopsTold disk_tells told start new (plays ++ more) answer
+    stops_on = record {
+      lines = both;
+      whole = λ is out. next.whole is out ∙ ap (λ b. b ++ report_text next.lines) (first.whole refl out) ∙ append_assoc start.written (report_text first.lines) (report_text next.lines) ∙ ap (λ t. start.written ++ t) (sym (text_more first.lines next.lines));
+      front = λ out. subst (λ t. WroteFront start.written t new.written) (sym (text_more first.lines next.lines)) (front_after start.written mid.written new.written (report_text first.lines) (report_text next.lines) (first.whole refl out) (next.front out));
+      all = all_both;
+      left = left_both;
+      stops = stops_both;
+    }
+
+  -- plays that broke off, with others behind them
+  pub stops_more : (start new : Scene) (plays rest : List Play) (answer : PlaysEnd) → (answer ≡ Ok (Ok tt) → ⊥) → StopsTold disk_tells told start new plays answer → StopsTold disk_tells told start new (plays ++ rest) answer
+  stops_more start new plays rest answer other t = record {
+    lines = t.lines;
+    whole = t.whole;
+    front = t.front;
+    all = λ is. absurd (other is);
+    left = λ heard state at.
+        unless_map answer
+        (λ q. (q.0, q.1, subst (λ ps. ComesTo (form_at start.over.world) state ps (law_lines t.lines) q.0) (sym (map-append law_play plays rest)) (comes_more (form_at start.over.world) (law_plays plays) (law_plays rest) state q.0 (law_lines t.lines) q.2)))
+        (t.left heard state at);
+    stops = t.stops;
+  }
+
+-- all plays are done only where they were taken and told
+all_done : (p : Result (Result (Unit {0}) LogRefusal) RunFault) (u : Result (Unit {0}) WriteRefusal) → end_of p u ≡ Ok (Ok tt) → (p ≡ Ok (Ok tt)) × (u ≡ Ok tt)
+all_done (Ok (Ok v)) (Ok w) is = (refl, refl)
+all_done (Ok (Ok v)) (Err Untold.Memory) is = let wrong : Ok (Err F.Memory) ≡ Ok (Ok tt) = is in absurd (cc)
+all_done (Ok (Ok v)) (Err Untold.Failed) is = let wrong : Err Rest.Report ≡ Ok (Ok tt) = is in absurd (cc)
+all_done (Ok (Err refusal)) (Ok w) is = let wrong : Ok (Err (log_fault refusal)) ≡ Ok (Ok tt) = is in absurd (cc)
+all_done (Ok (Err refusal)) (Err Untold.Memory) is = let wrong : Ok (Err (log_fault refusal)) ≡ Ok (Ok tt) = is in absurd (cc)
+all_done (Ok (Err refusal)) (Err Untold.Failed) is = let wrong : Err Rest.Report ≡ Ok (Ok tt) = is in absurd (cc)
+all_done (Err Run.Memory) (Ok w) is = let wrong : Ok (Err F.Memory) ≡ Ok (Ok tt) = is in absurd (cc)
+all_done (Err Run.Memory) (Err Untold.Memory) is = let wrong : Ok (Err F.Memory) ≡ Ok (Ok tt) = is in absurd (cc)
+all_done (Err Run.Memory) (Err Untold.Failed) is = let wrong : Err Rest.Report ≡ Ok (Ok tt) = is in absurd (cc)
+all_done (Err Run.Io) (Ok w) is = let wrong : Ok (Err F.Device) ≡ Ok (Ok tt) = is in absurd (cc)
+all_done (Err Run.Io) (Err Untold.Memory) is = let wrong : Ok (Err F.Device) ≡ Ok (Ok tt) = is in absurd (cc)
+all_done (Err Run.Io) (Err Untold.Failed) is = let wrong : Err Rest.Fault ≡ Ok (Ok tt) = is in absurd (cc)
+
+-- plays that were taken together, and then told
+module _ (disk_tells told : Bool) (a b : OverFile) (first lines : List Line) (empty : first ≡ []) (plays : List Play) (before now : List ℕ) (logs noted : List Logged)
+    (played : Result (Result (Unit {0}) LogRefusal) RunFault) (untold : Result (Unit {0}) WriteRefusal) where
+  abbrev Whole-course : State → List LawLine → State → Type 0
+  Whole-course s ls t = Course (form_at a.world) s (law_plays plays) ls t
+
+  abbrev So-far : State → List LawLine → State → Type 0
+  So-far s ls t = ComesTo (form_at a.world) s (law_plays plays) ls t
+
+  abbrev Told : Result (Result (Unit {0}) LogRefusal) RunFault → State → List Line → Type 0
+  Told p s ls = Comes p (HasState b) (λ v. RunsAsTold v (Whole-course s) (So-far s)) (So-far s) (So-far s) (law_lines ls)
+
+  -- what the lines tell from a state on
+  came : (p : Result (Result (Unit {0}) LogRefusal) RunFault) (s : State) → Told p s lines → UnlessIo p ((after : State) × HasState b after × So-far s (law_lines lines) after)
+  came (Ok (Ok v)) s C = (C.0, C.1, whole_comes (form_at a.world) (law_plays plays) s C.0 (law_lines lines) C.2)
+  came (Ok (Err refusal)) s C = C
+  came (Err Run.Memory) s C = C
+  came (Err Run.Io) s C = tt
+
+  pub stops_of : Led disk_tells (moment_of a first) (moment_of b lines) played (λ s v. RunsAsTold v (Whole-course s) (So-far s)) So-far So-far
+      → StopsLed disk_tells (moment_of a first) (moment_of b lines) played → OnOk untold (IsTrue told → now ≡ before ++ report_text lines) → OnErr untold (IsTrue told → WroteFront before (report_text lines) now)
+      → StopsTold disk_tells told (scene a before logs) (scene b now noted) plays (end_of played untold)
+  stops_of tells led all front = record {
+    lines = lines;
+    whole = λ is. subst (λ r. OnOk r (IsTrue told → now ≡ before ++ report_text lines)) (all_done played untold is).1 all;
+    front = front_either (IsTrue told) before (report_text lines) now untold all front;
+    all = λ is heard s at. subst (λ p. Told p s lines) (all_done played untold is).0 (from heard s at);
+    left = λ heard s at. unless_end _ played untold (came played s (from heard s at));
+    stops = λ heard state is safe calm. (let s = led heard state lines is (ap (λ ls. ls ++ lines) (sym empty)) safe calm in record { stops = s.stops; left = unless_end _ played untold s.left });
+  }
+    where
+      from : IsTrue disk_tells → (s : State) → HasState a s → Told played s lines
+      from heard s at = subst (Told played s) (sym (tells.lines ∙ ap (λ ls. ls ++ tells.added) empty)) (tells.told heard s at)
+
+-- the lines of a world's commands that aren't done tell of nothing else
+pub only_unfinished : (w : Whole) (o n : ℕ) (lines : List Line) → AreUnfinished w o n lines → OnlyUnfinished lines
+only_unfinished w o zero lines is = subst OnlyUnfinished (sym is) tt
+only_unfinished w o (suc n) lines (inl one) = subst OnlyUnfinished (sym one.2) ((suc o, refl), only_unfinished w (suc o) n one.1 one.3)
+only_unfinished w o (suc n) lines (inr none) = only_unfinished w (suc o) n lines none.1
+
+-- plays with nothing told behind them, or with the lines of unfinished commands or a front of their text
+module _ (disk_tells told : Bool) (old new : Scene) (plays : List Play) (answer : PlaysEnd) (t : StopsTold disk_tells told old new plays answer) (done sound : Type 0)
+    (read : (after : State) → IsStateAt new after → UnlessBroken answer (IsReadAs (form_at old.over.world) (seen new.over.history) after))
+    (unbroken : sound → IsTrue disk_tells → (state : State) → IsStateAt old state → OnBroken answer ⊥) where
+  over : (after : List ℕ) → (IsTrue told → WroteOf t.lines old.written after) → (done → IsTrue told → WroteWhole t.lines old.written after) → StopsOver old.over.world disk_tells told plays done sound old.over.history new.over.history old.written after
+  over after printed whole = record {
+    lines = t.lines;
+    printed = printed;
+    whole = whole;
+    left = λ so heard state at.
+        (let none = unbroken so heard state at in
+        let c = unless_sound answer none (t.left heard state at) in (c.0, c.2, inl (unless_sound answer none (read c.0 c.1))));
+    stops = λ heard state is safe calm. (t.stops heard state is safe calm).stops;
+  }
+
+  pub stops_broken : (done → ⊥) → StopsOver old.over.world disk_tells told plays done sound old.over.history new.over.history old.written new.written
+  stops_broken not =
+      over new.written (λ out. (let w = t.front out in ([], tt, w.0, w.2 ∙ ap (λ ls. old.written ++ take w.0 (report_text ls)) (sym (append-nil t.lines)))))
+      (λ is out. absurd (not is))
+
+  pub stops_finished : (more : List Line) (after : List ℕ) → OnlyUnfinished more → answer ≡ Ok (Ok tt) → (done → IsTrue told → after ≡ new.written ++ report_text more) → (IsTrue told → WroteFront new.written (report_text more) after)
+      → StopsOver old.over.world disk_tells told plays done sound old.over.history new.over.history old.written after
+  stops_finished more after only is all front =
+      over after
+      (λ out. (let w = front_after old.written new.written after (report_text t.lines) (report_text more) (t.whole is out) (front out) in
+      (more, only, w.0, w.2 ∙ ap (λ x. old.written ++ take w.0 x) (sym (text_more t.lines more)))))
+      (λ so out.
+      (more, only, all so out ∙ ap (λ b. b ++ report_text more) (t.whole is out) ∙ append_assoc old.written (report_text t.lines) (report_text more) ∙ ap (λ x. old.written ++ x) (sym (text_more t.lines more))))

@@ -1,0 +1,151 @@
+use Rattle.std.proofs.Common.{◌≡◌, ◌∷◌, ℕ, List, Ok, string_bytes, refl, sym, ◌∙◌, subst, inl}
+use Rattle.std.specs.Prelude.{IsTrue}
+use Rattle.tdb_disk.specs.Count.{Rose}
+use Rattle.tdb_commands.specs.declared.options.Options.{Options}
+use Rattle.tdb_answer.specs.Commands.Create.{CreateCause, CreateLeaves}
+use Rattle.tdb_answer.specs.Ending.{MadeSo}
+use Rattle.tdb_answer.specs.Input.{input_by}
+use Rattle.tdb_answer.specs.Reads.{AskEnds, GenCause}
+use Rattle.tdb_answer.specs.Left.{TaskLeaves}
+use Rattle.tdb_answer.specs.Commands.Backup.{BackupCause}
+use Rattle.tdb_cmdline.specs.declared.ask.Task.TheVariants.{Turns, Verify}
+use Rattle.tdb_answer.specs.declared.ending.Ending.TheVariants.{Replied}
+use Rattle.tdb_answer.specs.declared.ending.Reply.TheVariants.{Played}
+use Rattle.tdb_answer.specs.Commands.Generate.{GenHeard}
+use Rattle.tdb_answer.specs.Commands.Verify.{VerifyText, VerifyCause}
+use Rattle.tdb_answer.specs.Looks.{ending_of, Began}
+use Rattle.tdb_answer.specs.Printed.{TaskText, task_tells}
+use Rattle.tdb_answer.specs.Heard.{TaskHeard, VerifyHeard}
+use Rattle.tdb_answer.specs.Stops.{StopsScripted}
+use Rattle.tdb_answer.proofs.Looking.{began_as}
+use Rattle.tdb_answer.proofs.Acting.{made_cause, made_left, backup_ends, verify_ends, gen_ends}
+use Rattle.tdb_answer.proofs.Unlogged.{made_unlogged}
+use Rattle.tdb_answer.proofs.answering.answer_ask.Goals as goal
+
+-- why a file was made, or wasn't
+pub returns-in-Create-clause-cause : goal.returns-in-Create-clause-cause
+returns-in-Create-clause-cause g c told =
+    let held = g.F.Files.held c.args.files.now in
+    let before = g.F.Files.faults c.args.files.now in
+    let now = g.F.Files.faults c.create_file-creation.new.files in
+    let name = string_bytes c.args.ask.now.file in
+    let creation = c.create_file-creation.result in
+    subst (λ task. AskEnds (input_by g.S.Source.tells (g.S.Source.left c.args.input.now) (g.S.Source.faults c.args.input.now) (g.S.Source.faults c.args.input.now)) task name held before now c.made.result) (sym c.in-Create.is)
+    (inl (inl (made_cause c.in-Create.file name (held name) before now creation c.made.result
+    (subst (λ n. CreateCause c.in-Create.file (held n) before now creation) c.as_str-name.ensures.value (c.create_file-creation.ensures.cause told))
+    (subst (λ n. MadeSo n creation c.made.result) c.as_str-name.ensures.value c.made.ensures))))
+
+-- and what is left at its name
+pub returns-in-Create-clause-left : goal.returns-in-Create-clause-left
+returns-in-Create-clause-left g c told =
+    let held = g.F.Files.held c.args.files.now in
+    let given = g.F.Files.held c.create_file-creation.new.files in
+    let name = string_bytes c.args.ask.now.file in
+    let file = c.in-Create.file in
+    let before = g.F.Files.faults c.args.files.now in
+    let now = g.F.Files.faults c.create_file-creation.new.files in
+    let creation = c.create_file-creation.result in
+    subst (λ task. TaskLeaves (input_by g.S.Source.tells (g.S.Source.left c.args.input.now) (g.S.Source.faults c.args.input.now) (g.S.Source.faults c.args.input.now)) task name held c.made.result given) (sym c.in-Create.is)
+    (made_left file name (held name) before now (given name) creation c.made.result
+    (subst (λ n. CreateCause file (held n) before now creation) c.as_str-name.ensures.value (c.create_file-creation.ensures.cause told))
+    (subst (λ n. CreateLeaves file.form (held n) creation (given n)) c.as_str-name.ensures.value (c.create_file-creation.ensures.left told))
+    (subst (λ n. MadeSo n creation c.made.result) c.as_str-name.ensures.value c.made.ensures))
+
+-- why files were backed up, or weren't
+pub returns-in-Backup-clause-cause : goal.returns-in-Backup-clause-cause
+returns-in-Backup-clause-cause g c told =
+    let held = g.F.Files.held c.args.files.now in
+    let before = g.F.Files.faults c.args.files.now in
+    let now = g.F.Files.faults c.back_up.new.files in
+    let e = c.back_up.result in
+    backup_ends (input_by g.S.Source.tells (g.S.Source.left c.args.input.now) (g.S.Source.faults c.args.input.now) (g.S.Source.faults c.args.input.now)) c.args.ask.now.task c.in-Backup.more c.in-Backup.suffix (string_bytes c.args.ask.now.file) held before now e c.in-Backup.is
+    (subst (λ (q : List ℕ × List (List ℕ)). BackupCause (q.0 ∷ q.1) held before now e) (λ j. (c.as_str-name.ensures.value j, c.as_slice.ensures j)) (c.back_up.ensures.done told).cause)
+
+-- why files were verified, or weren't
+pub returns-in-Verify-clause-cause : goal.returns-in-Verify-clause-cause
+returns-in-Verify-clause-cause g c told =
+    let held = g.F.Files.held c.args.files.now in
+    let before = g.F.Files.faults c.args.files.now in
+    let now = g.F.Files.faults c.verify.new.files in
+    let e = ending_of c.verify.result in
+    verify_ends (input_by g.S.Source.tells (g.S.Source.left c.args.input.now) (g.S.Source.faults c.args.input.now) (g.S.Source.faults c.args.input.now)) c.args.ask.now.task c.in-Verify.more c.in-Verify.suffix (string_bytes c.args.ask.now.file) held before now e c.in-Verify.is
+    (subst (λ (q : List ℕ × (List ℕ × List (List ℕ))). VerifyCause q.0 (q.1.0 ∷ q.1.1) held before now e) (λ j. (c.as_str-in-Verify.ensures j, (c.as_str-name.ensures.value j, c.as_slice-in-Verify.ensures j))) (c.verify.ensures.cause told))
+
+-- and what was printed of them
+pub returns-in-Verify-clause-began : goal.returns-in-Verify-clause-began
+returns-in-Verify-clause-began g c =
+    let held = g.F.Files.held c.args.files.now in
+    let before = g.K.Sink.written c.args.output.now in
+    let now = g.K.Sink.written c.verify.new.output in
+    let r = c.verify.result in
+    let name = string_bytes c.args.ask.now.file in
+    subst (λ t. IsTrue (task_tells t g.F.D.Disk.tells g.K.Sink.tells) → Began (TaskText t name held) before now r) (sym c.in-Verify.is)
+    (λ told. began_as (VerifyText c.as_str-in-Verify.result.now (c.as_str-name.result.now ∷ c.as_slice-in-Verify.result.now) held) (TaskText (Verify c.in-Verify.more c.in-Verify.suffix) name held) before now r
+    (λ e text is. subst (λ (q : List ℕ × (List ℕ × List (List ℕ))). VerifyText q.0 (q.1.0 ∷ q.1.1) held e text) (λ j. (c.as_str-in-Verify.ensures j, (c.as_str-name.ensures.value j, c.as_slice-in-Verify.ensures j))) is)
+    (c.verify.ensures.began told))
+
+-- why generated commands ended so
+pub returns-in-Generate-clause-cause : goal.returns-in-Generate-clause-cause
+returns-in-Generate-clause-cause g c told =
+    let held = g.F.Files.held c.args.files.now in
+    let before = g.F.Files.faults c.args.files.now in
+    let now = g.F.Files.faults c.generate_file.new.files in
+    let e = c.generate_file.result in
+    gen_ends (input_by g.S.Source.tells (g.S.Source.left c.args.input.now) (g.S.Source.faults c.args.input.now) (g.S.Source.faults c.args.input.now)) c.args.ask.now.task c.in-Generate.commands c.in-Generate.seed (string_bytes c.args.ask.now.file) held before now e c.in-Generate.is
+    (subst (λ n. GenCause c.in-Generate.commands c.in-Generate.seed n (held n) before now e) c.as_str-name.ensures.value (c.generate_file.ensures.cause told))
+
+-- what logs heard of a file that was to be made, of the pairs on the input too, and of a rescue
+pub returns-in-Create-clause-told : goal.returns-in-Create-clause-told
+returns-in-Create-clause-told g c told =
+    let held = g.F.Files.held c.args.files.now in
+    let now = g.F.Files.held c.create_file-creation.new.files in
+    let logs = g.L.Logs.logs c.args.logs.now in
+    subst (λ t. TaskHeard t (string_bytes c.args.ask.now.file) held now c.made.result logs logs) (sym c.in-Create.is)
+    (refl, made_unlogged c.as_str-name.result.now c.create_file-creation.result c.made.result c.made.ensures)
+
+pub returns-in-Restore-clause-told : goal.returns-in-Restore-clause-told
+returns-in-Restore-clause-told g c told =
+    let held = g.F.Files.held c.args.files.now in
+    let now = g.F.Files.held c.restore_file.new.files in
+    let logs = g.L.Logs.logs c.args.logs.now in
+    subst (λ t. TaskHeard t (string_bytes c.args.ask.now.file) held now c.restore_file.result logs logs) (sym c.in-Restore.is)
+    (refl, c.restore_file.ensures.unlogged)
+
+pub returns-in-Rescue-clause-told : goal.returns-in-Rescue-clause-told
+returns-in-Rescue-clause-told g c told =
+    let held = g.F.Files.held c.args.files.now in
+    let now = g.F.Files.held c.rescue_on_file.new.files in
+    let logs = g.L.Logs.logs c.args.logs.now in
+    subst (λ t. TaskHeard t (string_bytes c.args.ask.now.file) held now (ending_of c.rescue_on_file.result) logs logs) (sym c.in-Rescue.is)
+    (refl, c.rescue_on_file.ensures.unlogged told)
+
+-- and of files that were verified
+pub returns-in-Verify-clause-told : goal.returns-in-Verify-clause-told
+returns-in-Verify-clause-told g c told =
+    let held = g.F.Files.held c.args.files.now in
+    let now = g.F.Files.held c.verify.new.files in
+    let e = ending_of c.verify.result in
+    let logs = g.L.Logs.logs c.args.logs.now in
+    let later = g.L.Logs.logs c.verify.new.logs in
+    subst (λ t. TaskHeard t (string_bytes c.args.ask.now.file) held now e logs later) (sym c.in-Verify.is)
+    (subst (λ (q : List ℕ × (List ℕ × List (List ℕ))). VerifyHeard q.0 (q.1.0 ∷ q.1.1) held e logs later) (λ j. (c.as_str-in-Verify.ensures j, (c.as_str-name.ensures.value j, c.as_slice-in-Verify.ensures j))) (c.verify.ensures.heard told))
+
+-- and of generated commands
+pub returns-in-Generate-clause-told : goal.returns-in-Generate-clause-told
+returns-in-Generate-clause-told g c told =
+    let held = g.F.Files.held c.args.files.now in
+    let now = g.F.Files.held c.generate_file.new.files in
+    let e = c.generate_file.result in
+    let logs = g.L.Logs.logs c.args.logs.now in
+    let later = g.L.Logs.logs c.generate_file.new.logs in
+    subst (λ t. TaskHeard t (string_bytes c.args.ask.now.file) held now e logs later) (sym c.in-Generate.is)
+    (subst (λ n. GenHeard c.in-Generate.commands c.in-Generate.seed (now n) e logs later) c.as_str-name.ensures.value (c.generate_file.ensures.told told))
+
+-- what stops leave of a file of turns
+pub returns-in-Turns-clause-stops : goal.returns-in-Turns-clause-stops
+returns-in-Turns-clause-stops g c options is told =
+    let input = input_by g.S.Source.tells (g.S.Source.left c.args.input.now) (g.S.Source.faults c.args.input.now) (g.S.Source.faults c.turns_on_file.new.input) in
+    let same : c.in-Turns.options ≡ options = (let one : Turns c.in-Turns.options ≡ Turns options = sym c.in-Turns.is ∙ is in cc) in
+    subst (λ (q : List ℕ × Options). StopsScripted input q.1 (g.F.Files.held c.args.files.now q.0) (g.F.Files.held c.turns_on_file.new.files q.0) g.K.Sink.tells (c.turns_on_file.result ≡ Ok (Replied Played))
+    (Rose (g.F.Files.faults c.args.files.now) (g.F.Files.faults c.turns_on_file.new.files) → ⊥) (g.K.Sink.written c.args.output.now) (g.K.Sink.written c.turns_on_file.new.output))
+    (λ j. (c.as_str-name.ensures.value j, same j)) (c.turns_on_file.ensures.stops told)

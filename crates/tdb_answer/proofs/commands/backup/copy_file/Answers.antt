@@ -1,0 +1,20 @@
+use Rattle.std.proofs.lemmas.Result.{err_from_is_err_and}
+use Rattle.tdb_disk.specs.History.{seen}
+use Rattle.tdb_answer.proofs.BackingUp.{copied_synced}
+use Rattle.tdb_answer.proofs.commands.backup.copy_file.Goals as goal
+
+-- the pairs were added, and are on the medium
+pub returns-in-Ok-sync-clause-copied : goal.returns-in-Ok-sync-clause-copied
+returns-in-Ok-sync-clause-copied g c told =
+    copied_synced (seen (g.D.Disk.history c.args.from.now)) (g.D.Disk.history c.add_all.new.to) (g.D.Disk.history c.sync.new.self)
+    (c.in_ok-add_all.ensures.copied told) (c.in-Ok-sync.ensures.done told)
+
+-- they weren't
+pub returns-in_err-add_all-clause-refused : goal.returns-in_err-add_all-clause-refused
+returns-in_err-add_all-clause-refused g c =
+    let q = err_from_is_err_and c.from_residual.result c.from_residual.ensures.1 in
+    rw (q.1, q.2) (λ told. c.in_err-add_all.ensures.refused told)
+
+-- the file was made
+pub add_all-requires-clause-new : goal.add_all-requires-clause-new
+add_all-requires-clause-new g c told = (c.in-Ok.ensures.made told).file

@@ -1,0 +1,15 @@
+pub mod Input
+pub mod Output
+pub mod Commands
+pub mod Looks
+pub mod Acts
+pub mod Ending
+pub mod Heard
+pub mod Playing
+pub mod Scripts
+pub mod Reads
+pub mod Left
+pub mod Printed
+pub mod Run
+pub mod Safe
+pub mod Stops

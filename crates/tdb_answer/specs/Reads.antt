@@ -1,0 +1,89 @@
+-- The tasks that read the input, and why tasks end.
+use Rattle.std.specs.Prelude.{◌≡◌, ◌⊎◌, ℕ, Bool, true, false, Option, None, Some, List, ◌∷◌}
+use Rattle.tdb_disk.specs.History.{History}
+use Rattle.tdb_cmdline.specs.declared.ask.Task.{Task}
+use Rattle.tdb_cmdline.specs.declared.ask.Task.TheVariants.{Create, On, Read, Rescue, Print, Restore, Backup, Verify, Turns, Session, Generate}
+use Rattle.tdb_answer.specs.declared.ending.Ending.{Ending}
+use Rattle.tdb_cmdline.specs.Ask.{Ask}
+use Rattle.tdb_answer.specs.Commands.Backup.{BackupEnds}
+use Rattle.tdb_answer.specs.Commands.Restore.{ReadSo}
+use Rattle.tdb_answer.specs.Commands.Session.{ServesSo}
+use Rattle.tdb_answer.specs.Commands.Turns.{PlaysSo}
+use Rattle.tdb_answer.specs.Commands.Generate.{GenSo}
+use Rattle.tdb_answer.specs.Commands.Verify.{VerifyEnds}
+use Rattle.tdb_commands.specs.declared.options.Options.{Options}
+use Rattle.tdb_answer.specs.Ending.{TaskCause}
+use Rattle.tdb_answer.specs.Input.{Input}
+
+-- whether a task reads the input: a restore, turns and a session do
+abbrev pub reads_input : Task → Bool
+reads_input (On act) = false
+reads_input (Read look) = false
+reads_input Rescue = false
+reads_input (Print printout limit) = false
+reads_input (Create form) = false
+reads_input (Restore limit) = true
+reads_input (Backup more suffix) = false
+reads_input (Verify more suffix) = false
+reads_input (Turns options) = true
+reads_input (Session limit) = true
+reads_input (Generate commands seed) = false
+
+abbrev pub ask_reads : Option Ask → Bool
+ask_reads None = false
+ask_reads (Some ask) = reads_input ask.task
+
+-- the task is a restore, no file is at its name, and it ends so by what it read
+pub record EndsByInput (input : Input) (task : Task) (held : Option History) (e : Ending) : Type 0 where
+  pub limit : ℕ
+  pub restores : task ≡ Restore limit
+  pub none : held ≡ None
+  pub read : ReadSo input limit e
+
+-- the task is turns, and it ends so by its script and its file
+pub record EndsByPlays (input : Input) (task : Task) (name : List ℕ) (held : Option History) (e : Ending) : Type 0 where
+  pub options : Options
+  pub turns : task ≡ Turns options
+  pub why : PlaysSo input options name held e
+
+-- the task is a session, and it ends so by its lines and its file
+pub record EndsByLines (input : Input) (task : Task) (name : List ℕ) (held : Option History) (e : Ending) : Type 0 where
+  pub limit : ℕ
+  pub serves : task ≡ Session limit
+  pub why : ServesSo input limit name held e
+
+-- why a task ends so, by what is held at its name, by the input, and by how often the files had failed before and after
+abbrev pub AskCause : Input → Task → List ℕ → Option History → ℕ → ℕ → Ending → Type 0
+AskCause input task name held before after e =
+    TaskCause task name held before after e ⊎ EndsByInput input task held e ⊎ EndsByPlays input task name held e ⊎ EndsByLines input task name held e
+
+-- the task is a backup, and ends so by what is held at the names of its files
+pub record EndsByFiles (task : Task) (name : List ℕ) (held : List ℕ → Option History) (e : Ending) : Type 0 where
+  pub more : List (List ℕ)
+  pub suffix : List ℕ
+  pub backs_up : task ≡ Backup more suffix
+  pub ends : BackupEnds (name ∷ more) held e
+
+-- the task is a verification, and ends so by what is held at the names of its files and of their copies
+pub record EndsByCounts (task : Task) (name : List ℕ) (held : List ℕ → Option History) (e : Ending) : Type 0 where
+  pub more : List (List ℕ)
+  pub suffix : List ℕ
+  pub text : List ℕ
+  pub verifies : task ≡ Verify more suffix
+  pub ends : VerifyEnds suffix (name ∷ more) held e text
+
+-- why generated commands end so, by what is held at the name of their file
+abbrev pub GenCause : ℕ → ℕ → List ℕ → Option History → ℕ → ℕ → Ending → Type 0
+GenCause commands seed name held before after e = TaskCause (Generate commands seed) name held before after e ⊎ ((held ≡ None) × GenSo commands seed e)
+
+-- the task is gen, no file is at its name, and it ends so by how its commands were done
+pub record EndsByCommands (task : Task) (held : Option History) (e : Ending) : Type 0 where
+  pub commands : ℕ
+  pub seed : ℕ
+  pub generates : task ≡ Generate commands seed
+  pub none : held ≡ None
+  pub ends : GenSo commands seed e
+
+-- why a task on the file of a name ends so, by what is held at all names
+abbrev pub AskEnds : Input → Task → List ℕ → (List ℕ → Option History) → ℕ → ℕ → Ending → Type 0
+AskEnds input task name held before after e = AskCause input task name (held name) before after e ⊎ EndsByFiles task name held e ⊎ EndsByCounts task name held e ⊎ EndsByCommands task (held name) e
