@@ -34,9 +34,12 @@ fn runs_beside_the_tables(rt: HostRuntime) {
     let alloc = rt.alloc();
     for (table, failing) in [
         ("loads", generate::failing_load(alloc)),
-        ("loads with logs", generate::failing_log(alloc)),
         ("checks", lines::failing_check(alloc)),
-        ("logs", logs::failing_row(alloc)),
+        ("logs", logs::failing_row(alloc, &logs::LOGGED)),
+        (
+            "loads with logs",
+            logs::failing_row(alloc, &generate::LOGGED),
+        ),
         ("summaries", summaries::failing_growth(alloc)),
         ("calls that fail in a commit", turns::failing_call(alloc)),
     ] {

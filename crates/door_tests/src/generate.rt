@@ -1,12 +1,13 @@
 // Generated commands: the summary that is printed, and the file that is left.
 
 use crate::images::NEW;
+use crate::logs::Logged;
 use crate::runs::Failing::{Disk, Files, Nothing, Output};
 use crate::runs::{USAGE, answer};
 use crate::tables::{Left, Table};
 use std::alloc::{AllocError, Global};
 use tdb_disk::{Call, MemFiles};
-use tdb_log::{Log, MemLog, Notice};
+use tdb_log::Notice;
 
 /// The summary of no command.
 const NOTHING: &str =
@@ -17,19 +18,22 @@ const ONE_STORE: &str =
     "commands 1\nok 1\ndata 0\nnoexist 0\nyes 0\nno 0\nfull 0\nmemory 0\nblocked 0\nlive 1\nlength 4096\n";
 
 /// The dump of a file that has the record which the one command from the seed 1 stores.
-fn one_stored(alloc: Global) -> Result<Vec<u8>, AllocError> {
-    let mut dump = Vec::new(alloc);
-    dump.extend_from_slice(b"{\nkey(4) = \"k496\"\ndata(150) = \"")?;
-    let stored = dump.len() + 150;
-    dump.resize(stored, b'c')?;
-    dump.extend_from_slice(b"\"\n}\n")?;
-    Ok(dump)
-}
+const ONE_STORED: &str =
+    "{\nkey(4) = \"k496\"\ndata(150) = \"cccccccccccccccccccccccccccccccccccccccccccccccccccccccccccccccccccccccccccccccccccccccccccccccccccccccccccccccccccccccccccccccccccccccccccccccccccccc\"\n}\n";
 
 /// What is printed where a call of a device fails.
 const FAULT: &str = "device fault\n";
 
-pub(crate) static TABLES: [Table; 8] = [
+pub(crate) static TABLES: [Table; 9] = [
+    Table {
+        files: &[],
+        in_turn: 2,
+        lines: &[
+            ("gen 1 1 f.tdb", "", Nothing, 0, ONE_STORE),
+            ("dump f.tdb", "", Nothing, 0, ONE_STORED),
+        ],
+        left: &[],
+    },
     // A file on which no command is done is a new one, and stays where it is to be made again.
     Table {
         files: &[],
@@ -114,21 +118,12 @@ pub(crate) static TABLES: [Table; 8] = [
     },
 ];
 
-/// What is otherwise where one command and its dump, and a load that is done twice, are looked at.
+/// What is otherwise with a load that is done twice.
 pub(crate) fn failing_load(alloc: Global) -> Result<Option<&'static str>, AllocError> {
     let logs = &mut Vec::new(alloc);
     let mut files = MemFiles::new(alloc);
-    let (one, loaded) = answer(alloc, &mut files, "gen 1 1 f.tdb", b"", Nothing, logs)?;
-    let (two, dumped) = answer(alloc, &mut files, "dump f.tdb", b"", Nothing, logs)?;
-    if one != 0 || loaded.as_slice() != ONE_STORE.as_bytes() {
-        return Ok(Some("one command"));
-    }
-    if two != 0 || dumped.as_slice() != one_stored(alloc)?.as_slice() {
-        return Ok(Some("the dump of one command"));
-    }
-    let mut files = MemFiles::new(alloc);
-    let (one, first) = answer(alloc, &mut files, "gen 300 1 f.tdb", b"", Nothing, logs)?;
-    let (two, other) = answer(alloc, &mut files, "gen 300 1 g.tdb", b"", Nothing, logs)?;
+    let (one, first) = answer(alloc, &mut files, "gen 300 1 f.tdb", b"", &Nothing, logs)?;
+    let (two, other) = answer(alloc, &mut files, "gen 300 1 g.tdb", b"", &Nothing, logs)?;
     if one != 0 || two != 0 || first.as_slice() != other.as_slice() {
         return Ok(Some("a load twice"));
     }
@@ -145,58 +140,30 @@ const GROWTH: Notice = Notice::Grew {
     to: 4096,
 };
 
-/// The status of one command with these logs, what it prints, and how long its file is then.
-fn load_logged(
-    alloc: Global,
-    logs: &mut Vec<Box<dyn Log>>,
-) -> Result<(u8, Vec<u8>, Option<usize>), AllocError> {
-    let mut files = MemFiles::new(alloc);
-    let (status, printed) = answer(alloc, &mut files, "gen 1 1 f.tdb", b"", Nothing, logs)?;
-    Ok((status, printed, files.get("f.tdb").map(|left| left.len())))
-}
-
-/// The notice that is the first to fail in a log, what one command answers and prints then, how long its file is, and
-/// what the log was told.
-type Logged = (u64, (u8, &'static str, Option<usize>), Option<Notice>);
-
 // The last log is told the growth of the file alone. Where it doesn't take that there is no file again.
-static LOGGED: [(&'static str, Logged); 2] = [
+pub(crate) static LOGGED: [(&'static str, Logged); 2] = [
     (
         "a log that is told the growth",
-        (1, (0, ONE_STORE, Some(4096)), Some(GROWTH)),
+        Logged {
+            files: &[],
+            line: &[("gen 1 1 f.tdb", "", Nothing, 0, ONE_STORE)],
+            stands: &[("f.tdb", Left::Length(4096))],
+            logs: 1,
+            failing: Some(1),
+            left: 1,
+            told: &[GROWTH],
+        },
     ),
     (
         "a log that fails at the growth",
-        (0, (10, "log fault\n", None), None),
+        Logged {
+            files: &[],
+            line: &[("gen 1 1 f.tdb", "", Nothing, 10, "log fault\n")],
+            stands: &[("f.tdb", Left::Missing)],
+            logs: 1,
+            failing: Some(0),
+            left: 1,
+            told: &[],
+        },
     ),
 ];
-
-/// Whether one command goes so with a log.
-fn log_holds(alloc: Global, row: &Logged) -> Result<bool, AllocError> {
-    let (failing, (status, printed, len), told) = *row;
-    let mut log = MemLog::new(alloc);
-    log.fail(failing)?;
-    let mut logs: Vec<Box<dyn Log>> = Vec::new(alloc);
-    logs.push(Box::new(alloc, log)?)?;
-    let (found, text, left) = load_logged(alloc, &mut logs)?;
-    let Some(log) = logs.first() else {
-        return Ok(false);
-    };
-    Ok(
-        found == status
-            && text.as_slice() == printed.as_bytes()
-            && left == len
-            && log.told(0) == told
-            && log.told(1) == None,
-    )
-}
-
-/// The first log with which one command goes otherwise.
-pub(crate) fn failing_log(alloc: Global) -> Result<Option<&'static str>, AllocError> {
-    for (name, row) in &LOGGED {
-        if !log_holds(alloc, row)? {
-            return Ok(Some(*name));
-        }
-    }
-    Ok(None)
-}

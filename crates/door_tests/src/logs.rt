@@ -1,23 +1,24 @@
 // What logs are told of a run, and logs that fail.
 
-use crate::images::{GATE, Image, NEW, ONE, STRAY};
+use crate::images::{GATE, NEW, ONE, STRAY};
 use crate::runs::Failing::Nothing;
-use crate::runs::{DUMP, Line, line_holds};
-use crate::tables::files_of;
+use crate::runs::{DUMP, Line};
+use crate::tables::{File, Left, failing_part};
 use crate::turns::{COMMIT, COMMIT_TOLD, PREPARED, PREPARED_TOLD};
 use std::alloc::{AllocError, Global};
 use tdb_log::{Log, MemLog, Notice};
 use tdb_words::What;
 
-/// A line over a file `f.tdb` and logs: how many there are, the notice that is the first to fail in each of them, how
-/// many are left, and what the first of those was told.
-struct Row {
-    file: Image,
-    line: Line<'static>,
-    logs: u32,
-    failing: Option<u64>,
-    left: usize,
-    told: &'static [Notice],
+/// A line over files and logs, and what it leaves. How many logs there are, the notice that is the first to fail in
+/// each of them, how many are left, and what the first of those was told.
+pub(crate) struct Logged {
+    pub(crate) files: &'static [File],
+    pub(crate) line: &'static [Line<'static>],
+    pub(crate) stands: &'static [(&'static str, Left)],
+    pub(crate) logs: u32,
+    pub(crate) failing: Option<u64>,
+    pub(crate) left: usize,
+    pub(crate) told: &'static [Notice],
 }
 
 const NOTHING_YET: Notice = Notice::Checked {
@@ -57,12 +58,13 @@ const KEPT: &str = "open\nsetlog\ndo 1 store a 1\n";
 const KEPT_TOLD: &str =
     "1 open\nlog 1\n1 step\n1 step\n1 step\n1 step\ngrew 696 4096\n1 step\n1 done ok\n";
 
-static ROWS: [(&'static str, Row); 18] = [
+pub(crate) static LOGGED: [(&'static str, Logged); 18] = [
     (
         "a store that grows the file",
-        Row {
-            file: NEW,
-            line: ("tool f.tdb store a 1", "", Nothing, 0, "ok\n"),
+        Logged {
+            files: &[("f.tdb", NEW)],
+            line: &[("tool f.tdb store a 1", "", Nothing, 0, "ok\n")],
+            stands: &[],
             logs: 1,
             failing: None,
             left: 1,
@@ -71,9 +73,10 @@ static ROWS: [(&'static str, Row); 18] = [
     ),
     (
         "a check of a lost key",
-        Row {
-            file: STRAY,
-            line: ("tool f.tdb check", "", Nothing, 3, "corrupt Stray 4068\n"),
+        Logged {
+            files: &[("f.tdb", STRAY)],
+            line: &[("tool f.tdb check", "", Nothing, 3, "corrupt Stray 4068\n")],
+            stands: &[],
             logs: 1,
             failing: None,
             left: 1,
@@ -82,9 +85,10 @@ static ROWS: [(&'static str, Row); 18] = [
     ),
     (
         "a recovery",
-        Row {
-            file: GATE,
-            line: ("tool f.tdb show a", "", Nothing, 0, "data(1) = \"1\"\n"),
+        Logged {
+            files: &[("f.tdb", GATE)],
+            line: &[("tool f.tdb show a", "", Nothing, 0, "data(1) = \"1\"\n")],
+            stands: &[],
             logs: 1,
             failing: None,
             left: 1,
@@ -93,9 +97,10 @@ static ROWS: [(&'static str, Row); 18] = [
     ),
     (
         "a quit behind a recovery",
-        Row {
-            file: GATE,
-            line: ("tool f.tdb quit", "", Nothing, 0, ""),
+        Logged {
+            files: &[("f.tdb", GATE)],
+            line: &[("tool f.tdb quit", "", Nothing, 0, "")],
+            stands: &[],
             logs: 1,
             failing: None,
             left: 1,
@@ -104,9 +109,10 @@ static ROWS: [(&'static str, Row); 18] = [
     ),
     (
         "a dump of a file that needs recovery",
-        Row {
-            file: GATE,
-            line: ("dump f.tdb", "", Nothing, 3, "needs recovery\n"),
+        Logged {
+            files: &[("f.tdb", GATE)],
+            line: &[("dump f.tdb", "", Nothing, 3, "needs recovery\n")],
+            stands: &[],
             logs: 1,
             failing: None,
             left: 1,
@@ -115,9 +121,10 @@ static ROWS: [(&'static str, Row); 18] = [
     ),
     (
         "a rescue, which tells nothing",
-        Row {
-            file: STRAY,
-            line: ("dump -e f.tdb", "", Nothing, 0, DUMP),
+        Logged {
+            files: &[("f.tdb", STRAY)],
+            line: &[("dump -e f.tdb", "", Nothing, 0, DUMP)],
+            stands: &[],
             logs: 1,
             failing: Some(0),
             left: 1,
@@ -126,9 +133,10 @@ static ROWS: [(&'static str, Row); 18] = [
     ),
     (
         "a dump",
-        Row {
-            file: ONE,
-            line: ("dump f.tdb", "", Nothing, 0, DUMP),
+        Logged {
+            files: &[("f.tdb", ONE)],
+            line: &[("dump f.tdb", "", Nothing, 0, DUMP)],
+            stands: &[],
             logs: 1,
             failing: None,
             left: 1,
@@ -137,9 +145,10 @@ static ROWS: [(&'static str, Row); 18] = [
     ),
     (
         "a backup",
-        Row {
-            file: ONE,
-            line: ("backup f.tdb", "", Nothing, 0, ""),
+        Logged {
+            files: &[("f.tdb", ONE)],
+            line: &[("backup f.tdb", "", Nothing, 0, "")],
+            stands: &[],
             logs: 1,
             failing: None,
             left: 1,
@@ -148,9 +157,10 @@ static ROWS: [(&'static str, Row); 18] = [
     ),
     (
         "a session that grows the file",
-        Row {
-            file: NEW,
-            line: ("tool f.tdb", "store a 1\n", Nothing, 0, "ok\n"),
+        Logged {
+            files: &[("f.tdb", NEW)],
+            line: &[("tool f.tdb", "store a 1\n", Nothing, 0, "ok\n")],
+            stands: &[],
             logs: 1,
             failing: None,
             left: 1,
@@ -159,9 +169,10 @@ static ROWS: [(&'static str, Row); 18] = [
     ),
     (
         "a commit that places an undo area",
-        Row {
-            file: ONE,
-            line: ("turns f.tdb", COMMIT, Nothing, 0, COMMIT_TOLD),
+        Logged {
+            files: &[("f.tdb", ONE)],
+            line: &[("turns f.tdb", COMMIT, Nothing, 0, COMMIT_TOLD)],
+            stands: &[],
             logs: 1,
             failing: None,
             left: 1,
@@ -170,9 +181,10 @@ static ROWS: [(&'static str, Row); 18] = [
     ),
     (
         "a death with a prepared transaction",
-        Row {
-            file: ONE,
-            line: ("turns f.tdb", PREPARED, Nothing, 0, PREPARED_TOLD),
+        Logged {
+            files: &[("f.tdb", ONE)],
+            line: &[("turns f.tdb", PREPARED, Nothing, 0, PREPARED_TOLD)],
+            stands: &[],
             logs: 1,
             failing: None,
             left: 1,
@@ -186,9 +198,10 @@ static ROWS: [(&'static str, Row); 18] = [
     ),
     (
         "two logs that are dropped",
-        Row {
-            file: NEW,
-            line: ("turns f.tdb", DROPPED, Nothing, 0, DROPPED_TOLD),
+        Logged {
+            files: &[("f.tdb", NEW)],
+            line: &[("turns f.tdb", DROPPED, Nothing, 0, DROPPED_TOLD)],
+            stands: &[],
             logs: 2,
             failing: None,
             left: 0,
@@ -197,9 +210,10 @@ static ROWS: [(&'static str, Row); 18] = [
     ),
     (
         "one of two logs that is dropped",
-        Row {
-            file: NEW,
-            line: ("turns f.tdb", KEPT, Nothing, 0, KEPT_TOLD),
+        Logged {
+            files: &[("f.tdb", NEW)],
+            line: &[("turns f.tdb", KEPT, Nothing, 0, KEPT_TOLD)],
+            stands: &[],
             logs: 2,
             failing: None,
             left: 1,
@@ -209,9 +223,10 @@ static ROWS: [(&'static str, Row); 18] = [
     // A log that fails ends the run with its own line, behind what was done up to then.
     (
         "a log that fails at the opening",
-        Row {
-            file: ONE,
-            line: ("tool f.tdb show a", "", Nothing, 10, "log fault\n"),
+        Logged {
+            files: &[("f.tdb", ONE)],
+            line: &[("tool f.tdb show a", "", Nothing, 10, "log fault\n")],
+            stands: &[],
             logs: 1,
             failing: Some(0),
             left: 1,
@@ -220,9 +235,10 @@ static ROWS: [(&'static str, Row); 18] = [
     ),
     (
         "a log that fails at the opening for a backup",
-        Row {
-            file: ONE,
-            line: ("backup f.tdb", "", Nothing, 10, "log fault\n"),
+        Logged {
+            files: &[("f.tdb", ONE)],
+            line: &[("backup f.tdb", "", Nothing, 10, "log fault\n")],
+            stands: &[],
             logs: 1,
             failing: Some(0),
             left: 1,
@@ -231,9 +247,10 @@ static ROWS: [(&'static str, Row); 18] = [
     ),
     (
         "a log that fails at the growth",
-        Row {
-            file: NEW,
-            line: ("tool f.tdb store a 1", "", Nothing, 10, "log fault\n"),
+        Logged {
+            files: &[("f.tdb", NEW)],
+            line: &[("tool f.tdb store a 1", "", Nothing, 10, "log fault\n")],
+            stands: &[],
             logs: 1,
             failing: Some(1),
             left: 1,
@@ -242,15 +259,16 @@ static ROWS: [(&'static str, Row); 18] = [
     ),
     (
         "a log that fails at the growth in a session",
-        Row {
-            file: NEW,
-            line: (
+        Logged {
+            files: &[("f.tdb", NEW)],
+            line: &[(
                 "tool f.tdb",
                 "store a 1\nshow a\n",
                 Nothing,
                 10,
                 "ok\nlog fault\n",
-            ),
+            )],
+            stands: &[],
             logs: 1,
             failing: Some(1),
             left: 1,
@@ -259,15 +277,16 @@ static ROWS: [(&'static str, Row); 18] = [
     ),
     (
         "a log that fails at a death",
-        Row {
-            file: ONE,
-            line: (
+        Logged {
+            files: &[("f.tdb", ONE)],
+            line: &[(
                 "turns f.tdb",
                 "open\ndie 1\nopen\n",
                 Nothing,
                 10,
                 "1 open\n1 died\nlog fault\n",
-            ),
+            )],
+            stands: &[],
             logs: 1,
             failing: Some(1),
             left: 1,
@@ -276,40 +295,45 @@ static ROWS: [(&'static str, Row); 18] = [
     ),
 ];
 
-/// Whether a log was told just these notices.
-fn was_told(log: &Box<dyn Log>, notices: &[Notice]) -> bool {
+/// So many logs in memory, in each of which the notice with this number is the first to fail, if one is named.
+fn logs_of(
+    alloc: Global,
+    count: u32,
+    failing: Option<u64>,
+) -> Result<Vec<Box<dyn Log>>, AllocError> {
+    let mut logs: Vec<Box<dyn Log>> = Vec::new(alloc);
+    for _ in 0..count {
+        let mut log = MemLog::new(alloc);
+        if let Some(nth) = failing {
+            log.fail(nth)?;
+        }
+        logs.push(Box::new(alloc, log)?)?;
+    }
+    Ok(logs)
+}
+
+/// Whether so many logs are left, and the first of them was told just these notices.
+fn were_told(logs: &[Box<dyn Log>], left: usize, notices: &[Notice]) -> bool {
+    let Some(log) = logs.first() else {
+        return left == 0 && notices.is_empty();
+    };
     for (at, notice) in notices.iter().enumerate() {
         if log.told(at as u64) != Some(*notice) {
             return false;
         }
     }
-    log.told(notices.len() as u64).is_none()
+    logs.len() == left && log.told(notices.len() as u64).is_none()
 }
 
-/// Whether the line of a row holds, and leaves and tells the logs what the row says.
-fn row_holds(alloc: Global, row: &Row) -> Result<bool, AllocError> {
-    let mut logs: Vec<Box<dyn Log>> = Vec::new(alloc);
-    for _ in 0..row.logs {
-        let mut log = MemLog::new(alloc);
-        if let Some(nth) = row.failing {
-            log.fail(nth)?;
-        }
-        logs.push(Box::new(alloc, log)?)?;
-    }
-    let mut files = files_of(alloc, &[("f.tdb", row.file)])?;
-    if !line_holds(alloc, &mut files, &row.line, &mut logs)? || logs.len() != row.left {
-        return Ok(false);
-    }
-    Ok(match logs.first() {
-        Some(log) => was_told(log, row.told),
-        None => row.told.is_empty(),
-    })
-}
-
-/// The first row that doesn't hold.
-pub(crate) fn failing_row(alloc: Global) -> Result<Option<&'static str>, AllocError> {
-    for (name, row) in &ROWS {
-        if !row_holds(alloc, row)? {
+/// The first row of a table whose line doesn't hold, or leaves and tells the logs something else.
+pub(crate) fn failing_row(
+    alloc: Global,
+    table: &[(&'static str, Logged)],
+) -> Result<Option<&'static str>, AllocError> {
+    for (name, row) in table {
+        let mut logs = logs_of(alloc, row.logs, row.failing)?;
+        let failure = failing_part(alloc, row.files, row.line, row.stands, &mut logs)?;
+        if failure.is_some() || !were_told(&logs, row.left, row.told) {
             return Ok(Some(*name));
         }
     }

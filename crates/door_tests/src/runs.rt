@@ -54,7 +54,7 @@ pub(crate) fn answer(
     files: &mut MemFiles,
     words: &str,
     text: &[u8],
-    failing: Failing,
+    failing: &Failing,
     logs: &mut Vec<Box<dyn Log>>,
 ) -> Result<(u8, Vec<u8>), AllocError>
     requires { (name : List ℕ) → name_is_taken files.old name ≡ false }
@@ -64,26 +64,11 @@ pub(crate) fn answer(
     let mut output = MemSink::new(alloc);
     match failing {
         Failing::Nothing => {}
-        Failing::Files(call, nth) => files.fail(call, nth)?,
-        Failing::Disk(name, call, nth) => files.fail_disk(name, call, nth)?,
-        Failing::Input(nth) => input.fail(Call::Read, nth)?,
-        Failing::Output(nth) => output.fail(Call::Write, nth)?,
+        Failing::Files(call, nth) => files.fail(*call, *nth)?,
+        Failing::Disk(name, call, nth) => files.fail_disk(name, *call, *nth)?,
+        Failing::Input(nth) => input.fail(Call::Read, *nth)?,
+        Failing::Output(nth) => output.fail(Call::Write, *nth)?,
     }
     let status = run_over(alloc, words, files, &mut input, &mut output, logs)?;
     Ok((status, output.as_slice().to_vec(alloc)?))
-}
-
-/// Whether the run of a line over these files, with these logs, has its status, and prints what it says.
-pub(crate) fn line_holds(
-    alloc: Global,
-    files: &mut MemFiles,
-    line: &Line<'_>,
-    logs: &mut Vec<Box<dyn Log>>,
-) -> Result<bool, AllocError>
-    requires { (name : List ℕ) → name_is_taken files.old name ≡ false }
-    ensures { (name : List ℕ) → name_is_taken files.new name ≡ false }
-{
-    let (words, text, failing, status, printed) = *line;
-    let (found, bytes) = answer(alloc, files, words, text.as_bytes(), failing, logs)?;
-    Ok(found == status && bytes.as_slice() == printed.as_bytes())
 }

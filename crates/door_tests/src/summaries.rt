@@ -1,8 +1,9 @@
 // The commands that tell what a file holds: in numbers, by its chains and by its free list.
 
 use crate::images::{GATE, NEW, NEW_BIG, ONE, STRAY};
+use crate::long::long_words;
 use crate::runs::Failing::{Disk, Nothing, Output};
-use crate::runs::{Line, USAGE, line_holds};
+use crate::runs::{USAGE, answer};
 use crate::tables::{Left, Table, files_of};
 use std::alloc::{AllocError, Global};
 use tdb_disk::Call;
@@ -123,48 +124,26 @@ pub(crate) static TABLES: [Table; 5] = [
 
 /// What is told of a file in which a value of 5000 bytes took the place of an empty one: the old record and what the
 /// file grew by are one free record.
-static GROWN: [Line<'static>; 3] = [
-    (
-        "tool f.tdb info",
-        "",
-        Nothing,
-        0,
-        "size 12288\nhash default 131 little\nsequence 0\nkeys 1\ndead 0\nfree 1\ndeadbytes 0\narea 0\nkeybytes 1\ndatabytes 5000\nlargestfree 5288\n",
-    ),
-    (
-        "tool f.tdb list",
-        "",
-        Nothing,
-        0,
-        "chain 10 1\nused 6008 1 5000 6256\n",
-    ),
-    ("tool f.tdb free", "", Nothing, 0, "free 696 5288\n"),
-];
+const GROWN: &str =
+    "size 12288\nhash default 131 little\nsequence 0\nkeys 1\ndead 0\nfree 1\ndeadbytes 0\narea 0\nkeybytes 1\ndatabytes 5000\nlargestfree 5288\n";
 
-/// A store of a value of 5000 bytes.
-fn long_store(alloc: Global) -> Result<String, AllocError> {
-    let mut words = String::from_str(alloc, "tool f.tdb store k ")?;
-    for _ in 0..500 {
-        words.push_str("xxxxxxxxxx")?;
-    }
-    Ok(words)
-}
+const GROWN_LIST: &str = "chain 10 1\nused 6008 1 5000 6256\n";
 
-/// The first line that goes otherwise over a file in which a long value takes the place of an empty one.
+/// The first line over one file, in which a long value takes the place of an empty one, that goes otherwise.
 pub(crate) fn failing_growth(alloc: Global) -> Result<Option<&'static str>, AllocError> {
-    let store = long_store(alloc)?;
+    let store = long_words(alloc, "tool f.tdb store k ")?;
     let mut files = files_of(alloc, &[("f.tdb", NEW)])?;
-    let empty = ("tool f.tdb store k \"\"", "", Nothing, 0, "ok\n");
-    if !line_holds(alloc, &mut files, &empty, &mut Vec::new(alloc))? {
-        return Ok(Some("an empty value"));
-    }
-    let long = (store.as_str(), "", Nothing, 0, "ok\n");
-    if !line_holds(alloc, &mut files, &long, &mut Vec::new(alloc))? {
-        return Ok(Some("a long value"));
-    }
-    for line in &GROWN {
-        if !line_holds(alloc, &mut files, line, &mut Vec::new(alloc))? {
-            return Ok(Some(line.0));
+    for (name, words, printed) in [
+        ("an empty value", "tool f.tdb store k \"\"", "ok\n"),
+        ("a long value", store.as_str(), "ok\n"),
+        ("its numbers", "tool f.tdb info", GROWN),
+        ("its records", "tool f.tdb list", GROWN_LIST),
+        ("its free records", "tool f.tdb free", "free 696 5288\n"),
+    ] {
+        let logs = &mut Vec::new(alloc);
+        let (found, bytes) = answer(alloc, &mut files, words, b"", &Nothing, logs)?;
+        if found != 0 || bytes.as_slice() != printed.as_bytes() {
+            return Ok(Some(name));
         }
     }
     Ok(None)

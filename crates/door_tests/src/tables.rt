@@ -4,17 +4,17 @@ ghost use Rattle.std.specs.Prelude.{◌≡◌, ℕ, List, false, IfOk};
 ghost use Rattle.tdb_disk.specs.MemFiles.{name_is_taken};
 
 use crate::images::{Image, bytes_of, has_words};
-use crate::runs::{Failing, Line, line_holds};
+use crate::runs::{Failing, Line, answer};
 use small_file::Word;
 use std::alloc::{AllocError, Global};
 use tdb_disk::MemFiles;
+use tdb_log::Log;
 
 /// A file by its name.
 pub(crate) type File = (&'static str, Image);
 
 /// What has to be left at a name: no file; a file of these bytes, of other ones, of this length, or with these
 /// little-endian words; or one of which a check by the program prints this.
-#[derive(Clone, Copy)]
 pub(crate) enum Left {
     Missing,
     Bytes(Image),
@@ -53,8 +53,10 @@ pub(crate) fn checks(
 ) -> Result<bool, AllocError> {
     let mut files = MemFiles::new(alloc);
     files.put("f.tdb", bytes)?;
-    let line = ("tool f.tdb check", "", Failing::Nothing, status, printed);
-    line_holds(alloc, &mut files, &line, &mut Vec::new(alloc))
+    let logs = &mut Vec::new(alloc);
+    let line = "tool f.tdb check";
+    let (found, text) = answer(alloc, &mut files, line, b"", &Failing::Nothing, logs)?;
+    Ok(found == status && text.as_slice() == printed.as_bytes())
 }
 
 /// Whether what is found at a name is what has to be left there.
@@ -86,26 +88,30 @@ fn unlike<'a>(
     Ok(None)
 }
 
-/// The first line of these that doesn't hold, in turn over these files, or the last one with the first name at which
-/// they leave something else.
+/// The first of these lines that has another status or prints something else, in turn over these files, with these
+/// logs; or the last one with the first name at which they leave something else.
 pub(crate) fn failing_part<'a>(
     alloc: Global,
     files: &[File],
     lines: &[Line<'a>],
     left: &[(&'a str, Left)],
+    logs: &mut Vec<Box<dyn Log>>,
 ) -> Result<Option<(&'a str, &'a str)>, AllocError> {
     let mut files = files_of(alloc, files)?;
-    for line in lines {
-        if !line_holds(alloc, &mut files, line, &mut Vec::new(alloc))? {
-            return Ok(Some((line.0, "")));
+    for (words, text, failing, status, printed) in lines {
+        let (found, bytes) = answer(alloc, &mut files, words, text.as_bytes(), failing, logs)?;
+        if found != *status || bytes.as_slice() != printed.as_bytes() {
+            return Ok(Some((*words, "")));
         }
     }
     let last = match lines.last() {
         Some(line) => line.0,
         None => "",
     };
-    let name = unlike(alloc, &files, left)?;
-    Ok(name.map(|name| (last, name)))
+    Ok(match unlike(alloc, &files, left)? {
+        Some(name) => Some((last, name)),
+        None => None,
+    })
 }
 
 /// Where tables fail first: a line, and the name of a file where that isn't what the line had to leave.
@@ -115,7 +121,8 @@ pub(crate) fn first_failure(
 ) -> Result<Option<(&'static str, &'static str)>, AllocError> {
     for table in tables {
         for lines in table.lines.chunks(table.in_turn.max(1)) {
-            let failure = failing_part(alloc, table.files, lines, table.left)?;
+            let logs = &mut Vec::new(alloc);
+            let failure = failing_part(alloc, table.files, lines, table.left, logs)?;
             if failure.is_some() {
                 return Ok(failure);
             }

@@ -164,10 +164,10 @@ fn change_failing(alloc: Global, call: Call, nth: u64) -> Result<(u8, bool), All
     let mut files = files_of(alloc, &[("f.tdb", ONE)])?;
     let failing = Disk("f.tdb", call, nth);
     let logs = &mut Vec::new(alloc);
-    let (status, _) = answer(alloc, &mut files, "turns f.tdb", CHANGE, failing, logs)?;
+    let (status, _) = answer(alloc, &mut files, "turns f.tdb", CHANGE, &failing, logs)?;
     let mut after = MemFiles::new(alloc);
     after.put("f.tdb", files.get("f.tdb").unwrap_or(&[]))?;
-    let (_, shown) = answer(alloc, &mut after, "tool f.tdb show a", b"", Nothing, logs)?;
+    let (_, shown) = answer(alloc, &mut after, "tool f.tdb show a", b"", &Nothing, logs)?;
     let shown = shown.as_slice();
     Ok((
         status,

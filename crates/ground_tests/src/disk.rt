@@ -1,305 +1,297 @@
 //! Tests of the forms in memory, over the public calls of `tdb_disk`: calls that fail where they are told to, and what
 //! a stop leaves.
 
-ghost use Rattle.std.specs.Prelude.{◌≡◌, ◌≤◌, None, IfOk, false};
-ghost use Rattle.tdb_disk.specs.History.{seen};
-ghost use Rattle.tdb_disk.specs.MemDisk.{memory_history, memory_size};
-ghost use Rattle.tdb_disk.specs.MemFiles.{name_is_taken};
-ghost use Rattle.tdb_disk.specs.Published.{published};
-ghost use Rattle.tdb_disk.specs.Stop.{Quiet};
-
-use crate::rows::first_false;
-use std::alloc::{AllocError, Global};
+use crate::edits::{Edit, failing_disk, is_done, removes, renames, take_and_give};
+use crate::rows::{Row, failing};
+use std::alloc::Global;
 use tdb_disk::example::publish;
 use tdb_disk::{
-    Call, Disk, DiskFault, Files, FuseDisk, MemDisk, MemFiles, MemSink, MemSource, Pick, Sink,
-    Source, Take, TakeRefusal,
+    Call, Files, FuseDisk, MemDisk, MemFiles, MemSink, MemSource, Pick, Sink, Source, Take,
+    TakeRefusal,
 };
 
-/// A one in each place of a call that failed: each call of a disk of sixteen bytes, in order, which leaves the length.
-fn each_call<D: Disk>(d: &mut D) -> [u8; 7]
-    requires { D.size d.old ≡ 16 }
-    ensures { D.size d.new ≡ 16 }
-{
-    [
-        u8::from(d.len().is_err()),
-        u8::from(d.read(0, &mut [0; 4]).is_err()),
-        u8::from(d.write(2, b"word").is_err()),
-        u8::from(d.write_word(4, *b"WORD").is_err()),
-        u8::from(d.grow(16).is_err()),
-        u8::from(d.cut(16).is_err()),
-        u8::from(d.sync().is_err()),
-    ]
+/// A disk, its calls that are to fail, the calls that are made, and whether each is done. What a stop leaves then, by
+/// picks; or how many syncs were made, and how many bytes were read.
+struct Edited {
+    bytes: &'static [u8],
+    fails: &'static [(Call, u64)],
+    edits: &'static [(Edit, bool)],
+    left: &'static [(Pick, &'static [u8])],
+    counts: Option<(u64, u64)>,
 }
 
-/// A disk of sixteen bytes with calls of each kind that are to fail.
-fn failing_disk(alloc: Global) -> Result<MemDisk, AllocError>
-    ensures { IfOk result (λ d. memory_size d ≡ 16) }
-{
-    let mut disk = MemDisk::new(alloc, b"0123456789abcdef")?;
-    disk.fail(Call::Len, 0)?;
-    disk.fail(Call::Read, 1)?;
-    disk.fail(Call::Write, 0)?;
-    disk.fail(Call::WriteWord, 1)?;
-    disk.fail(Call::Grow, 0)?;
-    disk.fail(Call::Cut, 1)?;
-    disk.fail(Call::Sync, 0)?;
-    disk.fail(Call::Sync, 1)?;
-    Ok(disk)
-}
+/// A disk of eight bytes of which no call fails.
+const EIGHT: Edited = Edited {
+    bytes: b"01234567",
+    fails: &[],
+    edits: &[],
+    left: &[],
+    counts: None,
+};
 
-/// What is otherwise where calls of a disk fail.
-fn failing_call(alloc: Global) -> Result<Option<&'static str>, AllocError> {
-    let mut disk = failing_disk(alloc)?;
-    let first = each_call(&mut disk);
-    let second = each_call(&mut disk);
-    let third = each_call(&mut disk);
-    Ok(first_false(&[
-        ("first calls", first == [1, 0, 1, 0, 1, 0, 1]),
-        ("second calls", second == [0, 1, 0, 1, 0, 1, 1]),
-        ("third calls", third == [0; 7]),
-        ("one sync", disk.syncs() == 1),
-        ("eight bytes are read", disk.bytes_read() == 8),
-        ("memory is not wanting", disk.starved() == 0),
-    ]))
-}
+/// A disk of sixteen bytes. Each edit asks for the length first, so that of the second round is the eighth such call.
+const FAILING: Edited = Edited {
+    bytes: b"0123456789abcdef",
+    fails: &[
+        (Call::Len, 0),
+        (Call::Read, 1),
+        (Call::Write, 0),
+        (Call::WriteWord, 1),
+        (Call::Grow, 0),
+        (Call::Cut, 1),
+        (Call::Sync, 0),
+        (Call::Sync, 1),
+    ],
+    edits: &[
+        (Edit::Len(16), false),
+        (Edit::Read(0, b"0123"), true),
+        (Edit::Write(2, b"word"), false),
+        (Edit::Word(4, *b"WORD"), true),
+        (Edit::Grow(16), false),
+        (Edit::Cut(16), true),
+        (Edit::Sync, false),
+        (Edit::Len(16), true),
+        (Edit::Read(0, b"0123"), false),
+        (Edit::Write(2, b"word"), true),
+        (Edit::Word(4, *b"WORD"), false),
+        (Edit::Grow(16), true),
+        (Edit::Cut(16), false),
+        (Edit::Sync, false),
+        (Edit::Len(16), true),
+        (Edit::Read(0, b"01wo"), true),
+        (Edit::Write(2, b"word"), true),
+        (Edit::Word(4, *b"WORD"), true),
+        (Edit::Grow(16), true),
+        (Edit::Cut(16), true),
+        (Edit::Sync, true),
+    ],
+    left: &[],
+    counts: Some((1, 8)),
+};
 
-/// What the picks `Synced`, `Read` and `Torn` leave of a disk.
-type Images = [&'static [u8]; 3];
-
-/// Whether the picks leave these images.
-fn leaves(alloc: Global, disk: &MemDisk, want: Images) -> Result<bool, AllocError> {
-    for (pick, image) in [
-        (Pick::Synced, want[0]),
-        (Pick::Read, want[1]),
-        (Pick::Torn, want[2]),
-    ] {
-        if disk.after_stop(alloc, pick)?.as_slice() != image {
-            return Ok(false);
-        }
-    }
-    Ok(true)
-}
-
-/// A word over a part of a write, and a write over a part of a word.
-fn write_over<D: Disk>(d: &mut D) -> Result<(), DiskFault>
-    requires { D.size d.old ≡ 8 }
-{
-    d.write(1, b"abcd")?;
-    d.write_word(0, *b"WORD")?;
-    d.write(6, b"ef")
-}
-
-/// A write that is cut away, a growth over its place, and a write into what has grown.
-fn change_length<D: Disk>(d: &mut D) -> Result<(), DiskFault>
-    requires { D.size d.old ≡ 8 }
-{
-    d.write(4, b"abcd")?;
-    d.cut(4)?;
-    d.grow(12)?;
-    d.write(8, b"ef")
-}
-
-/// What is otherwise where a disk of eight bytes stops.
-fn failing_stop(alloc: Global) -> Result<Option<&'static str>, AllocError> {
-    let mut disk = MemDisk::new(alloc, b"01234567")?;
-    let written = write_over(&mut disk).is_ok()
-        && leaves(
-            alloc,
-            &disk,
-            [b"01234567", b"WORDd5ef", b"WORD\xa55\xa5\xa5"],
-        )?;
-    let synced = disk.sync().is_ok() && leaves(alloc, &disk, [b"WORDd5ef"; 3])?;
-    let mut other = MemDisk::new(alloc, b"01234567")?;
-    let changed = change_length(&mut other).is_ok()
-        && leaves(
-            alloc,
-            &other,
-            [
-                b"01234567",
-                b"0123\0\0\0\0ef\0\0",
-                b"0123\0\0\0\0\xa5\xa5\0\0",
+static EDITED: [(&'static str, Edited); 4] = [
+    ("calls that fail", FAILING),
+    (
+        "a write and a word over each other",
+        Edited {
+            edits: &[
+                (Edit::Write(1, b"abcd"), true),
+                (Edit::Word(0, *b"WORD"), true),
+                (Edit::Write(6, b"ef"), true),
             ],
-        )?;
-    Ok(first_false(&[
-        ("a write and a word over each other", written),
-        ("a sync", synced),
-        ("a cut and a growth", changed),
-    ]))
-}
+            left: &[
+                (Pick::Synced, b"01234567"),
+                (Pick::Read, b"WORDd5ef"),
+                (Pick::Torn, b"WORD\xa55\xa5\xa5"),
+            ],
+            ..EIGHT
+        },
+    ),
+    (
+        "the same and a sync",
+        Edited {
+            edits: &[
+                (Edit::Write(1, b"abcd"), true),
+                (Edit::Word(0, *b"WORD"), true),
+                (Edit::Write(6, b"ef"), true),
+                (Edit::Sync, true),
+            ],
+            left: &[
+                (Pick::Synced, b"WORDd5ef"),
+                (Pick::Read, b"WORDd5ef"),
+                (Pick::Torn, b"WORDd5ef"),
+            ],
+            ..EIGHT
+        },
+    ),
+    // A write that is cut away, a growth over its place, and a write into what has grown.
+    (
+        "a cut and a growth",
+        Edited {
+            edits: &[
+                (Edit::Write(4, b"abcd"), true),
+                (Edit::Cut(4), true),
+                (Edit::Grow(12), true),
+                (Edit::Write(8, b"ef"), true),
+            ],
+            left: &[
+                (Pick::Synced, b"01234567"),
+                (Pick::Read, b"0123\0\0\0\0ef\0\0"),
+                (Pick::Torn, b"0123\0\0\0\0\xa5\xa5\0\0"),
+            ],
+            ..EIGHT
+        },
+    ),
+];
 
-/// Publishes over a disk that passes `k` calls, and says whether that answered Ok.
-fn publish_through(disk: MemDisk, k: u64) -> (MemDisk, bool)
-    requires room { 12 ≤ memory_size disk }
-    requires quiet { Quiet (memory_history disk) }
-    requires nothing { published (seen (memory_history disk)) ≡ None }
-{
-    let mut fuse = FuseDisk::new(disk, k);
-    let done = publish(&mut fuse, *b"name", *b"text").is_ok();
-    (fuse.inner(), done)
-}
-
-/// Whether a publication over a disk that passes `k` calls is torn by no stop, and is done by five.
-fn publication_holds(alloc: Global, k: u64) -> Result<bool, AllocError> {
-    let (disk, done) = publish_through(MemDisk::new(alloc, &[0; 12])?, k);
-    for pick in [Pick::Synced, Pick::Read, Pick::Torn] {
-        let left = disk.after_stop(alloc, pick)?;
-        let both = left.as_slice() == b"\x01\0\0\0nametext".as_slice();
-        if !both && (done || !left.as_slice().starts_with(&[0; 4])) {
-            return Ok(false);
+impl Row for Edited {
+    fn holds(&self, rt: HostRuntime) -> Option<bool> {
+        let mut disk = failing_disk(rt.alloc(), self.bytes, self.fails)?;
+        for (edit, done) in self.edits {
+            if is_done(&mut disk, edit)? != *done {
+                return Some(false);
+            }
         }
-    }
-    Ok(done == (k == 5))
-}
-
-/// The first publication of which that isn't so.
-fn failing_publication(alloc: Global) -> Result<Option<&'static str>, AllocError> {
-    for (name, k) in [
-        ("no call", 0),
-        ("one call", 1),
-        ("two calls", 2),
-        ("three calls", 3),
-        ("four calls", 4),
-        ("five calls", 5),
-    ] {
-        if !publication_holds(alloc, k)? {
-            return Ok(Some(name));
+        for (pick, image) in self.left {
+            if disk.after_stop(rt.alloc(), *pick).ok()?.as_slice() != *image {
+                return Some(false);
+            }
         }
+        let counts = (disk.syncs(), disk.bytes_read());
+        Some(disk.starved() == 0 && self.counts.unwrap_or(counts) == counts)
     }
-    Ok(None)
 }
 
-/// Why a file isn't taken; None where it is.
-fn refusal<F: Files>(files: &mut F, alloc: Global, name: &str, how: Take) -> Option<TakeRefusal>
-    requires { F.is_taken files.old name.now ≡ false }
-    ensures { F.is_taken files.new name.now ≡ false }
-{
-    match files.take(alloc, name, how) {
-        Ok(disk) => {
-            files.give(name, disk);
-            None
+/// A publication over a disk that passes so many calls.
+struct Publication(u64);
+
+static PUBLICATIONS: [(&'static str, Publication); 6] = [
+    ("no call", Publication(0)),
+    ("one call", Publication(1)),
+    ("two calls", Publication(2)),
+    ("three calls", Publication(3)),
+    ("four calls", Publication(4)),
+    ("five calls", Publication(5)),
+];
+
+impl Row for Publication {
+    // It is torn by no stop, and is done by five.
+    fn holds(&self, rt: HostRuntime) -> Option<bool> {
+        let alloc = rt.alloc();
+        let mut fuse = FuseDisk::new(MemDisk::new(alloc, &[0; 12]).ok()?, self.0);
+        let done = publish(&mut fuse, *b"name", *b"text").is_ok();
+        let disk = fuse.inner();
+        for pick in [Pick::Synced, Pick::Read, Pick::Torn] {
+            let left = disk.after_stop(alloc, pick).ok()?;
+            let both = left.as_slice() == b"\x01\0\0\0nametext".as_slice();
+            if !both && (done || !left.as_slice().starts_with(&[0; 4])) {
+                return Some(false);
+            }
         }
-        Err(refusal) => Some(refusal),
+        Some(done == (self.0 == 5))
     }
-}
-
-/// Takes a file of three bytes, writes over the first, and gives what the last sync left of it.
-fn write_first(files: &mut MemFiles, alloc: Global, name: &str) -> Option<MemDisk>
-    requires { name_is_taken files.old name.now ≡ false }
-    ensures { name_is_taken files.new name.now ≡ false }
-{
-    let Ok(mut disk) = files.take(alloc, name, Take::Existing) else {
-        return None;
-    };
-    let written = disk.len() == Ok(3) && disk.write(0, b"O").is_ok();
-    let left = disk.after_stop(alloc, Pick::Synced);
-    files.give(name, disk);
-    if written { left.ok() } else { None }
-}
-
-/// What is otherwise where files keep what was given back.
-fn failing_give(alloc: Global) -> Result<Option<&'static str>, AllocError> {
-    let mut files = MemFiles::new(alloc);
-    files.put("a", b"one")?;
-    files.fail_disk("a", Call::Write, 1)?;
-    let there = refusal(&mut files, alloc, "a", Take::New);
-    let left = write_first(&mut files, alloc, "a");
-    Ok(first_false(&[
-        ("a file is there", there == Some(TakeRefusal::There)),
-        (
-            "nothing is synced",
-            left.is_some_and(|d| d.as_slice() == b"one".as_slice()),
-        ),
-        (
-            "what is given back",
-            files.get("a") == Some(b"One".as_slice()),
-        ),
-    ]))
-}
-
-/// What is otherwise where the first take and the third one fail.
-fn failing_take(alloc: Global) -> Result<Option<&'static str>, AllocError> {
-    let mut files = MemFiles::new(alloc);
-    files.fail(Call::Take, 0)?;
-    files.fail(Call::Take, 2)?;
-    let missing = refusal(&mut files, alloc, "a", Take::Existing);
-    let made = refusal(&mut files, alloc, "a", Take::New);
-    let failed = refusal(&mut files, alloc, "a", Take::ReadOnly);
-    let taken = refusal(&mut files, alloc, "a", Take::ReadOnly);
-    Ok(first_false(&[
-        (
-            "a file that is missing",
-            missing == Some(TakeRefusal::Missing),
-        ),
-        ("one that is made", made == None),
-        ("a take that fails", failed == Some(TakeRefusal::Failed)),
-        ("one that doesn't", taken == None),
-    ]))
 }
 
 /// Whether a name has these bytes.
-fn holds(files: &MemFiles, name: &str, wanted: &[u8]) -> bool {
+fn has(files: &MemFiles, name: &str, wanted: &[u8]) -> bool {
     match files.get(name) {
         Some(bytes) => bytes == wanted,
         None => false,
     }
 }
 
-/// What is otherwise where the second rename and the first removal fail.
-fn failing_rename(alloc: Global) -> Result<Option<&'static str>, AllocError> {
+/// Takes a file of three bytes, and writes over the first. Whether the last sync left it as it was, and the files keep
+/// what was given back.
+fn write_first(alloc: Global) -> Option<bool> {
     let mut files = MemFiles::new(alloc);
-    files.put("a", b"one")?;
-    files.fail(Call::Rename, 1)?;
-    files.fail(Call::Remove, 0)?;
-    let renamed = files.rename("a", "b").is_ok();
-    let failed = files.rename("b", "a").is_err();
-    let kept = files.remove("b").is_err();
-    let held = holds(&files, "b", b"one");
-    let removed = files.remove("b").is_ok();
-    Ok(first_false(&[
-        ("a rename", renamed),
-        ("a rename that fails", failed),
-        ("a removal that fails", kept),
-        ("what is held then", held),
-        ("a removal", removed),
-        ("nothing is held then", files.get("b").is_none()),
-        ("memory is not wanting", files.starved() == 0),
-    ]))
+    files.put("a", b"one").ok()?;
+    files.fail_disk("a", Call::Write, 1).ok()?;
+    let there = take_and_give(&mut files, alloc, "a", Take::New) == Some(TakeRefusal::There);
+    let Ok(mut disk) = files.take(alloc, "a", Take::Existing) else {
+        return None;
+    };
+    let written = is_done(&mut disk, &Edit::Write(0, b"O")) == Some(true);
+    let left = disk.after_stop(alloc, Pick::Synced);
+    files.give("a", disk);
+    let is_left = left.ok()?.as_slice() == b"one".as_slice();
+    Some(there && written && is_left && has(&files, "a", b"One"))
 }
 
-/// What is otherwise where the second calls of streams fail.
-fn failing_stream(alloc: Global) -> Result<Option<&'static str>, AllocError> {
-    let mut source = MemSource::new(alloc, b"abcde")?;
-    let mut sink = MemSink::new(alloc);
-    source.fail(Call::Read, 1)?;
-    sink.fail(Call::Write, 1)?;
-    let mut buf = [0; 3];
-    let first = source.read(&mut buf) == Ok(3) && buf == *b"abc";
-    let failed = source.read(&mut buf).is_err();
-    let last = source.read(&mut buf) == Ok(2) && buf == *b"dec";
-    Ok(first_false(&[
-        ("a read", first),
-        ("a read that fails", failed),
-        ("the last read", last),
-        ("a write", sink.write(b"ab").is_ok()),
-        ("a write that fails", sink.write(b"cd").is_err()),
-        ("the last write", sink.write(b"ef").is_ok()),
-        ("what is written", sink.as_slice() == b"abef".as_slice()),
-    ]))
+/// Whether takes of files of which the first and the third one fail are answered so.
+fn takes(alloc: Global) -> Option<bool> {
+    let mut files = MemFiles::new(alloc);
+    files.fail(Call::Take, 0).ok()?;
+    files.fail(Call::Take, 2).ok()?;
+    let missing = take_and_give(&mut files, alloc, "a", Take::Existing);
+    let made = take_and_give(&mut files, alloc, "a", Take::New);
+    let failed = take_and_give(&mut files, alloc, "a", Take::ReadOnly);
+    let taken = take_and_give(&mut files, alloc, "a", Take::ReadOnly);
+    let is_refused = missing == Some(TakeRefusal::Missing) && failed == Some(TakeRefusal::Failed);
+    Some(is_refused && made == None && taken == None)
+}
+
+/// Whether renames and removals of which some fail are done so.
+fn renames_and_removes(alloc: Global) -> Option<bool> {
+    let mut files = MemFiles::new(alloc);
+    files.put("a", b"one").ok()?;
+    files.fail(Call::Rename, 1).ok()?;
+    files.fail(Call::Remove, 0).ok()?;
+    let renamed = renames(&mut files, "a", "b") && !renames(&mut files, "b", "a");
+    let kept = !removes(&mut files, "b") && has(&files, "b", b"one");
+    let removed = removes(&mut files, "b") && files.get("b").is_none();
+    Some(renamed && kept && removed && files.starved() == 0)
+}
+
+/// A call of a source of `abcde`, of which three bytes are read at a time, or of a sink. The second call of either
+/// fails.
+enum Transfer {
+    /// How many bytes are read, and the three bytes then; None where the call fails.
+    Read(Option<(usize, [u8; 3])>),
+    /// These bytes are written, and whether that is done.
+    Write(&'static [u8], bool),
+}
+
+/// Calls of a source and a sink, and what is written then.
+struct Transfers(&'static [Transfer], &'static [u8]);
+
+static TRANSFERS: [(&'static str, Transfers); 2] = [
+    (
+        "reads",
+        Transfers(
+            &[
+                Transfer::Read(Some((3, *b"abc"))),
+                Transfer::Read(None),
+                Transfer::Read(Some((2, *b"dec"))),
+            ],
+            b"",
+        ),
+    ),
+    (
+        "writes",
+        Transfers(
+            &[
+                Transfer::Write(b"ab", true),
+                Transfer::Write(b"cd", false),
+                Transfer::Write(b"ef", true),
+            ],
+            b"abef",
+        ),
+    ),
+];
+
+impl Row for Transfers {
+    fn holds(&self, rt: HostRuntime) -> Option<bool> {
+        let mut source = MemSource::new(rt.alloc(), b"abcde").ok()?;
+        let mut sink = MemSink::new(rt.alloc());
+        source.fail(Call::Read, 1).ok()?;
+        sink.fail(Call::Write, 1).ok()?;
+        let mut buf = [0; 3];
+        for transfer in self.0 {
+            let is_so = match transfer {
+                Transfer::Read(want) => match source.read(&mut buf) {
+                    Ok(count) => *want == Some((count, buf)),
+                    Err(_) => want.is_none(),
+                },
+                Transfer::Write(bytes, done) => sink.write(bytes).is_ok() == *done,
+            };
+            if !is_so {
+                return Some(false);
+            }
+        }
+        Some(sink.as_slice() == self.1)
+    }
 }
 
 #[test]
 fn forms_in_memory_fail_and_stop_as_told(rt: HostRuntime) {
-    let alloc = rt.alloc();
     for (table, failing) in [
-        ("calls of a disk", failing_call(alloc)),
-        ("stops", failing_stop(alloc)),
-        ("publications", failing_publication(alloc)),
-        ("files given back", failing_give(alloc)),
-        ("takes", failing_take(alloc)),
-        ("renames and removals", failing_rename(alloc)),
-        ("streams", failing_stream(alloc)),
+        ("disks", failing(rt, &EDITED)),
+        ("publications", failing(rt, &PUBLICATIONS)),
+        ("streams", failing(rt, &TRANSFERS)),
     ] {
-        assert_eq!(rt; failing, Ok(None), "{table}");
+        assert_eq!(rt; failing, None, "{table}");
     }
+    assert_eq!(rt; write_first(rt.alloc()), Some(true));
+    assert_eq!(rt; takes(rt.alloc()), Some(true));
+    assert_eq!(rt; renames_and_removes(rt.alloc()), Some(true));
 }

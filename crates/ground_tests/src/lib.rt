@@ -9,6 +9,8 @@ mod disk;
 #[cfg(test)]
 mod dump;
 #[cfg(test)]
+mod edits;
+#[cfg(test)]
 mod files;
 #[cfg(test)]
 mod locks;

@@ -1,8 +1,7 @@
 //! Tests of logs and their lines, over the public calls of `tdb_log`: the lines of notices, each log's refusals, and a
 //! list of logs, of which the last is told.
 
-use crate::rows::first_false;
-use std::alloc::{AllocError, Global};
+use crate::rows::{Row, failing};
 use tdb_disk::{Call, MemSink};
 use tdb_log::{CountLog, Log, LogRefusal, Logs, MemLog, Notice, SinkLog};
 use tdb_words::What;
@@ -26,105 +25,161 @@ const DIED: Notice = Notice::Died { opener: 1 };
 
 const FAILED: Result<(), LogRefusal> = Err(LogRefusal::Failed);
 
-static LINES: [(&'static str, Notice); 5] = [
-    ("recovered 13\n", Notice::Recovered { bytes: 13 }),
-    ("checked 0 0\n", CHECKED),
-    ("refused ChainLoop 4294967295\n", REFUSED),
-    ("grew 696 4096\n", GREW),
-    ("died 2\n", Notice::Died { opener: 2 }),
+/// A log, and what is seen of it beside what it tells.
+enum Form {
+    /// In memory. It fails at its second notice.
+    Memory,
+    /// It has counted so many.
+    Count(u64),
+    /// It has written these lines to a sink, whose sixth write fails.
+    Lines(&'static [u8]),
+}
+
+/// What a log is told, and what it answers. The notices that it tells then, and no more.
+struct Kept {
+    form: Form,
+    notes: &'static [(Notice, Result<(), LogRefusal>)],
+    told: &'static [Notice],
+}
+
+static KEPT: [(&'static str, Kept); 3] = [
+    (
+        "a log in memory",
+        Kept {
+            form: Form::Memory,
+            notes: &[(CHECKED, Ok(())), (GREW, FAILED), (GREW, Ok(()))],
+            told: &[CHECKED, GREW],
+        },
+    ),
+    (
+        "a log that counts",
+        Kept {
+            form: Form::Count(2),
+            notes: &[(GREW, Ok(())), (CHECKED, Ok(()))],
+            told: &[],
+        },
+    ),
+    (
+        "a log over a sink",
+        Kept {
+            form: Form::Lines(
+                b"recovered 13\nchecked 0 0\nrefused ChainLoop 4294967295\ngrew 696 4096\ndied 2\ngrew 696 4096\n",
+            ),
+            notes: &[
+                (Notice::Recovered { bytes: 13 }, Ok(())),
+                (CHECKED, Ok(())),
+                (REFUSED, Ok(())),
+                (GREW, Ok(())),
+                (Notice::Died { opener: 2 }, Ok(())),
+                (GREW, FAILED),
+                (GREW, Ok(())),
+            ],
+            told: &[],
+        },
+    ),
 ];
 
-/// The first line that a notice doesn't add to those in front of it, or what such a log tells.
-fn failing_line(alloc: Global) -> Option<&'static str> {
-    let mut log = SinkLog::new(MemSink::new(alloc));
-    for (line, notice) in &LINES {
-        let before = log.sink.as_slice().len();
-        let noted = log.note(notice);
-        if noted != Ok(()) || log.sink.as_slice().get(before..) != Some(line.as_bytes()) {
-            return Some(*line);
+impl Kept {
+    /// Whether a log answers so.
+    fn is_noted<L: Log>(&self, log: &mut L) -> bool {
+        for (notice, answer) in self.notes {
+            if log.note(notice) != *answer {
+                return false;
+            }
         }
+        true
     }
-    first_false(&[("a sink tells nothing", log.told(0) == None)])
+
+    /// Whether a log tells so.
+    fn is_told<L: Log>(&self, log: &L) -> bool {
+        for (number, notice) in self.told.iter().enumerate() {
+            if log.told(number as u64) != Some(*notice) {
+                return false;
+            }
+        }
+        log.told(self.told.len() as u64) == None
+    }
 }
 
-/// What is otherwise where a write of a sink fails.
-fn failing_sink(alloc: Global) -> Result<Option<&'static str>, AllocError> {
-    let mut sink = MemSink::new(alloc);
-    sink.fail(Call::Write, 0)?;
-    let mut log = SinkLog::new(sink);
-    Ok(first_false(&[
-        ("the write that fails", log.note(&GREW) == FAILED),
-        ("the one behind it", log.note(&GREW) == Ok(())),
-        (
-            "its line",
-            log.sink.as_slice() == b"grew 696 4096\n".as_slice(),
-        ),
-    ]))
+impl Row for Kept {
+    fn holds(&self, rt: HostRuntime) -> Option<bool> {
+        Some(match &self.form {
+            Form::Memory => {
+                let mut log = MemLog::new(rt.alloc());
+                log.fail(1).ok()?;
+                self.is_noted(&mut log) && self.is_told(&log)
+            }
+            Form::Count(count) => {
+                let mut log = CountLog::new();
+                self.is_noted(&mut log) && self.is_told(&log) && log.count() == *count
+            }
+            Form::Lines(lines) => {
+                let mut sink = MemSink::new(rt.alloc());
+                sink.fail(Call::Write, 5).ok()?;
+                let mut log = SinkLog::new(sink);
+                self.is_noted(&mut log) && self.is_told(&log) && log.sink.as_slice() == *lines
+            }
+        })
+    }
 }
 
-/// What is otherwise with a log in memory that fails at its second notice.
-fn failing_memory(alloc: Global) -> Result<Option<&'static str>, AllocError> {
-    let mut log = MemLog::new(alloc);
-    log.fail(1)?;
-    Ok(first_false(&[
-        ("a notice", log.note(&CHECKED) == Ok(())),
-        ("one that fails", log.note(&GREW) == FAILED),
-        ("the one behind it", log.note(&GREW) == Ok(())),
-        ("the first that is told", log.told(0) == Some(CHECKED)),
-        ("the second", log.told(1) == Some(GREW)),
-        ("no third", log.told(2) == None),
-    ]))
+/// What is done with a list of logs in memory.
+enum Turn {
+    /// One more is put to its end, which fails at its second notice.
+    Push,
+    /// It is told that an opener died, and answers so.
+    Note(Result<(), LogRefusal>),
+    /// The last is dropped, and so many are left.
+    Drop(usize),
+    /// The first one tells this.
+    First(Option<Notice>),
 }
 
-/// What is otherwise with a log that counts.
-fn failing_count() -> Option<&'static str> {
-    let mut log = CountLog::new();
-    first_false(&[
-        ("a notice", log.note(&GREW) == Ok(())),
-        ("another one", log.note(&CHECKED) == Ok(())),
-        ("two of them", log.count() == 2),
-        ("none is told", log.told(0) == None),
-    ])
-}
+struct Turns(&'static [Turn]);
 
-/// What the first log of a list tells.
-fn first_told(logs: &[Box<dyn Log>]) -> Option<Notice> {
-    logs.first().and_then(|log| log.told(0))
-}
+static TURNS: [(&'static str, Turns); 1] = [(
+    "the last is told, and once it is dropped the one before it",
+    Turns(&[
+        Turn::Note(Ok(())),
+        Turn::Drop(0),
+        Turn::Push,
+        Turn::Push,
+        Turn::Note(Ok(())),
+        Turn::Note(FAILED),
+        Turn::Drop(1),
+        Turn::First(None),
+        Turn::Note(Ok(())),
+        Turn::First(Some(DIED)),
+    ]),
+)];
 
-/// What is otherwise with a list of logs, of which the last fails at its second notice.
-fn failing_list(alloc: Global) -> Result<Option<&'static str>, AllocError> {
-    let mut failing = MemLog::new(alloc);
-    failing.fail(1)?;
-    let mut logs: Vec<Box<dyn Log>> = Vec::new(alloc);
-    let none = logs.note(&DIED) == Ok(()) && logs.drop_last() == 0;
-    logs.push(Box::new(alloc, MemLog::new(alloc))?)?;
-    logs.push(Box::new(alloc, failing)?)?;
-    let last = logs.note(&DIED) == Ok(());
-    let refusal = logs.note(&DIED) == FAILED;
-    let one = logs.drop_last() == 1;
-    let untold = first_told(&logs) == None;
-    let first = logs.note(&DIED) == Ok(());
-    Ok(first_false(&[
-        ("no log", none),
-        ("the last is told", last),
-        ("the last fails", refusal),
-        ("one log is left", one),
-        ("which was told nothing", untold),
-        ("and now is told", first && first_told(&logs) == Some(DIED)),
-    ]))
+impl Row for Turns {
+    fn holds(&self, rt: HostRuntime) -> Option<bool> {
+        let mut logs: Vec<Box<dyn Log>> = Vec::new(rt.alloc());
+        for turn in self.0 {
+            let is_so = match turn {
+                Turn::Push => {
+                    let mut log = MemLog::new(rt.alloc());
+                    log.fail(1).ok()?;
+                    logs.push(Box::new(rt.alloc(), log).ok()?).is_ok()
+                }
+                Turn::Note(answer) => logs.note(&DIED) == *answer,
+                Turn::Drop(left) => logs.drop_last() == *left,
+                Turn::First(told) => match logs.first() {
+                    Some(log) => log.told(0) == *told,
+                    None => false,
+                },
+            };
+            if !is_so {
+                return Some(false);
+            }
+        }
+        Some(true)
+    }
 }
 
 #[test]
 fn logs_are_told(rt: HostRuntime) {
-    let alloc = rt.alloc();
-    for (table, failing) in [
-        ("lines", Ok(failing_line(alloc))),
-        ("a sink that fails", failing_sink(alloc)),
-        ("a log in memory", failing_memory(alloc)),
-        ("a log that counts", Ok(failing_count())),
-        ("a list of logs", failing_list(alloc)),
-    ] {
-        assert_eq!(rt; failing, Ok(None), "{table}");
-    }
+    assert_eq!(rt; failing(rt, &KEPT), None);
+    assert_eq!(rt; failing(rt, &TURNS), None);
 }

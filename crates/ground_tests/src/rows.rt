@@ -1,9 +1,15 @@
-//! Which row is the first that fails.
+//! Tables of tests: rows that have names.
 
-/// The name of the first row that doesn't hold.
-pub(crate) fn first_false(rows: &[(&'static str, bool)]) -> Option<&'static str> {
-    for (name, holds) in rows {
-        if !*holds {
+/// A row of a table.
+pub(crate) trait Row {
+    /// Whether all goes as the row says. None where memory is wanting.
+    fn holds(&self, rt: HostRuntime) -> Option<bool>;
+}
+
+/// The name of the first row that doesn't go as it says.
+pub(crate) fn failing<R: Row>(rt: HostRuntime, rows: &[(&'static str, R)]) -> Option<&'static str> {
+    for (name, row) in rows {
+        if row.holds(rt) != Some(true) {
             return Some(*name);
         }
     }

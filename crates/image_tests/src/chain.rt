@@ -11,14 +11,11 @@ fn chains_are_read_and_changed(rt: HostRuntime) {
     let alloc = rt.alloc();
     for (table, failing) in [
         ("look-ups", values::failing_look_up(alloc)),
-        ("reads of a look-up", values::failing_read(alloc)),
         ("changes", changes::failing_change(alloc, Order::Little)),
         (
             "changes in big order",
             changes::failing_change(alloc, Order::Big),
         ),
-        ("faults of changes", changes::failing_fault(alloc)),
-        ("a long record", changes::failing_long_record(alloc)),
     ] {
         assert_eq!(rt; failing, Ok(None), "{table}");
     }

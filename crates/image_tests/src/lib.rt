@@ -10,6 +10,8 @@ mod chain;
 #[cfg(test)]
 mod check;
 #[cfg(test)]
+mod files;
+#[cfg(test)]
 mod free;
 #[cfg(test)]
 mod rescue;

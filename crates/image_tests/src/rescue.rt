@@ -1,12 +1,12 @@
 //! Tests of rescues, over the public call of `tdb_rescue`: damaged files in memory, and what can still be read of them.
 
-use crate::rows::first_false;
+use crate::files::{disk_of, file_of};
 use small_file::{HEADER, RECORD, Word};
 use std::alloc::{AllocError, Global};
-use tdb_disk::{Call, MemDisk, MemSink};
+use tdb_disk::{Call, MemSink};
 use tdb_rescue::{RescueRefusal, rescue};
 use tdb_space::Direct;
-use tdb_words::{FREE, GATE_OPEN, HashKind, Header, Order, USED, word_bytes};
+use tdb_words::{FREE, GATE_OPEN, HashKind, Header, Order, USED};
 
 // The dump of the pair of the small file.
 const ONE: &[u8] = b"{\nkey(1) = \"a\"\ndata(1) = \"1\"\n}\n";
@@ -39,77 +39,6 @@ const NESTED: [Word; 14] = [
 const NESTED_TEXT: &[u8] =
     b"{\nkey(1) = \"b\"\ndata(35) = \"xxx\\00\\00\\00\\00\\08\\00\\00\\00\\01\\00\\00\\00\\01\\00\\00\\00\\BF\\0F\\\x447\\8C\\99\\19\\01&c3BB \\00\\00\\00\"\n}\n{\nkey(1) = \"c\"\ndata(1) = \"3\"\n}\n{\nkey(1) = \"a\"\ndata(1) = \"1\"\n}\n";
 
-/// What is otherwise in the small file, how many pairs can be read of it, and their dump.
-type Damaged = (&'static [Word], u64, &'static [u8]);
-
-static DAMAGED: [(&'static str, Damaged); 7] = [
-    ("a chain that is cut", (&[(200, 0)], 1, ONE)),
-    ("a tailer that is wrong", (&[(4092, 33)], 0, b"")),
-    ("the hash of another key", (&[(4080, HASH_OF_B)], 0, b"")),
-    ("a free record", (&[(4084, FREE)], 0, b"")),
-    ("a key of one byte too many", (&[(4072, 4)], 0, b"")),
-    (
-        "an undo area whose gate is open",
-        (&[(44, 696), (716, GATE_OPEN), (4088, 0x4242_3961)], 1, NINE),
-    ),
-    ("a record inside another", (&NESTED, 3, NESTED_TEXT)),
-];
-
-/// Puts words at their offsets, those for which there is room.
-fn put_words(bytes: &mut [u8], words: &[Word], order: Order) {
-    for (at, word) in words {
-        if *at <= bytes.len() && bytes.len() - *at >= 4 {
-            bytes[*at..*at + 4].copy_from_slice(&word_bytes(*word, order));
-        }
-    }
-}
-
-/// Whether a rescue of a file with this header writes the text, answers the count, and leaves the file as it is.
-fn rescue_holds(
-    alloc: Global,
-    bytes: &[u8],
-    header: &Header,
-    count: u64,
-    text: &[u8],
-) -> Result<bool, AllocError> {
-    let mut disk = MemDisk::new(alloc, bytes)?;
-    let mut out = MemSink::new(alloc);
-    let answer = rescue(alloc, &mut Direct::new(&mut disk, header), &mut out);
-    Ok(answer == Ok(count) && out.as_slice() == text && disk.as_slice() == bytes)
-}
-
-/// The first damage after which what is written is otherwise.
-fn failing_damage(alloc: Global) -> Result<Option<&'static str>, AllocError> {
-    for (name, (changes, count, text)) in &DAMAGED {
-        let mut bytes = vec![in alloc; 0u8; 4096]?;
-        put_words(&mut bytes, &RECORD, Order::Little);
-        put_words(&mut bytes, changes, Order::Little);
-        if !rescue_holds(alloc, &bytes, &HEADER, *count, text)? {
-            return Ok(Some(*name));
-        }
-    }
-    Ok(None)
-}
-
-/// What is otherwise in the other byte order, with Jenkins' hash.
-fn failing_order(alloc: Global) -> Result<Option<&'static str>, AllocError> {
-    let mut bytes = vec![in alloc; 0u8; 4096]?;
-    put_words(&mut bytes, &RECORD, Order::Big);
-    put_words(
-        &mut bytes,
-        &[(4080, 0x58D6_8708), (4088, 0x6131_4242)],
-        Order::Big,
-    );
-    let header = Header {
-        order: Order::Big,
-        hash: HashKind::Jenkins,
-        ..HEADER
-    };
-    let other = rescue_holds(alloc, &bytes, &header, 1, ONE)?;
-    let usual = rescue_holds(alloc, &bytes, &HEADER, 0, b"")?;
-    Ok(first_false(&[("the other form", other), ("the usual form", usual)]))
-}
-
 // A value of 65,536 bytes, which with its key passes what is read at once, and behind it the pair of the small file.
 const LONG: [Word; 14] = [
     (804, 65_544),
@@ -128,45 +57,192 @@ const LONG: [Word; 14] = [
     (66_428, 32),
 ];
 
-/// The call that fails, the answer, and how many bytes were written. The first read is that of the front, the second
-/// that of the long record's tailer, the third that of its pair, and the fourth that of what follows.
-type Fault = (Call, u64, Result<u64, RescueRefusal>, usize);
+/// What is written: this text, or so many bytes.
+enum Written {
+    Text(&'static [u8]),
+    Bytes(usize),
+}
 
-static FAULTS: [(&'static str, Fault); 6] = [
-    ("no call", (Call::Read, 9, Ok(2), 65_601)),
-    ("the first read", (Call::Read, 0, Err(RescueRefusal::Io), 0)),
-    ("the third read", (Call::Read, 2, Err(RescueRefusal::Io), 0)),
+/// A file of this length and byte order with words, of which the later ones overwrite the earlier ones, and else full
+/// of one byte. The header by which it is read, the call of the file and of the output that fails, what a rescue
+/// answers, and what it writes.
+struct Rescue {
+    len: usize,
+    fill: u8,
+    order: Order,
+    words: &'static [Word],
+    changes: &'static [Word],
+    header: Header,
+    failing: Option<(Call, u64)>,
+    want: Result<u64, RescueRefusal>,
+    written: Written,
+}
+
+/// The small file, of which nothing can be read.
+const NONE: Rescue = Rescue {
+    len: 4096,
+    fill: 0,
+    order: Order::Little,
+    words: &RECORD,
+    changes: &[],
+    header: HEADER,
+    failing: None,
+    want: Ok(0),
+    written: Written::Text(b""),
+};
+
+/// The pair of the small file can be read.
+const READ: Rescue = Rescue {
+    want: Ok(1),
+    written: Written::Text(ONE),
+    ..NONE
+};
+
+/// The small file in the other byte order, with Jenkins' hash.
+const OTHER: Rescue = Rescue {
+    order: Order::Big,
+    changes: &[(4080, 0x58D6_8708), (4088, 0x6131_4242)],
+    ..NONE
+};
+
+/// The file with a long value in which a call fails. The first read is that of the front, the second that of the long
+/// record's tailer, the third that of its pair, and the fourth that of what follows.
+const FAULT: Rescue = Rescue {
+    len: 70_000,
+    fill: b'x',
+    words: &LONG,
+    failing: Some((Call::Read, 0)),
+    want: Err(RescueRefusal::Io),
+    written: Written::Bytes(0),
+    ..NONE
+};
+
+static RESCUES: [(&'static str, Rescue); 15] = [
+    (
+        "a chain that is cut",
+        Rescue {
+            changes: &[(200, 0)],
+            ..READ
+        },
+    ),
+    (
+        "a tailer that is wrong",
+        Rescue {
+            changes: &[(4092, 33)],
+            ..NONE
+        },
+    ),
+    (
+        "the hash of another key",
+        Rescue {
+            changes: &[(4080, HASH_OF_B)],
+            ..NONE
+        },
+    ),
+    (
+        "a free record",
+        Rescue {
+            changes: &[(4084, FREE)],
+            ..NONE
+        },
+    ),
+    (
+        "a key of one byte too many",
+        Rescue {
+            changes: &[(4072, 4)],
+            ..NONE
+        },
+    ),
+    (
+        "an undo area whose gate is open",
+        Rescue {
+            changes: &[(44, 696), (716, GATE_OPEN), (4088, 0x4242_3961)],
+            written: Written::Text(NINE),
+            ..READ
+        },
+    ),
+    (
+        "a record inside another",
+        Rescue {
+            changes: &NESTED,
+            want: Ok(3),
+            written: Written::Text(NESTED_TEXT),
+            ..READ
+        },
+    ),
+    (
+        "the other form",
+        Rescue {
+            header: Header {
+                order: Order::Big,
+                hash: HashKind::Jenkins,
+                ..HEADER
+            },
+            want: Ok(1),
+            written: Written::Text(ONE),
+            ..OTHER
+        },
+    ),
+    ("the usual form", OTHER),
+    (
+        "no call",
+        Rescue {
+            failing: Some((Call::Read, 9)),
+            want: Ok(2),
+            written: Written::Bytes(65_601),
+            ..FAULT
+        },
+    ),
+    ("the first read", FAULT),
+    (
+        "the third read",
+        Rescue {
+            failing: Some((Call::Read, 2)),
+            ..FAULT
+        },
+    ),
     (
         "a read behind a long pair",
-        (Call::Read, 3, Err(RescueRefusal::Io), 65_570),
+        Rescue {
+            failing: Some((Call::Read, 3)),
+            written: Written::Bytes(65_570),
+            ..FAULT
+        },
     ),
     (
         "the first write",
-        (Call::Write, 0, Err(RescueRefusal::OutFailed), 0),
+        Rescue {
+            failing: Some((Call::Write, 0)),
+            want: Err(RescueRefusal::OutFailed),
+            ..FAULT
+        },
     ),
     (
         "the last write",
-        (Call::Write, 1, Err(RescueRefusal::OutFailed), 65_570),
+        Rescue {
+            failing: Some((Call::Write, 1)),
+            want: Err(RescueRefusal::OutFailed),
+            written: Written::Bytes(65_570),
+            ..FAULT
+        },
     ),
 ];
 
-/// Whether a call that fails is told so, and so much was written before.
-fn fault_holds(alloc: Global, bytes: &[u8], row: &Fault) -> Result<bool, AllocError> {
-    let (call, nth, want, written) = *row;
-    let mut disk = MemDisk::new(alloc, bytes)?;
-    let mut out = MemSink::new(alloc);
-    disk.fail(call, nth)?;
-    out.fail(call, nth)?;
-    let answer = rescue(alloc, &mut Direct::new(&mut disk, &HEADER), &mut out);
-    Ok(answer == want && out.as_slice().len() == written)
-}
-
-/// The first call that isn't told so where it fails.
-fn failing_fault(alloc: Global) -> Result<Option<&'static str>, AllocError> {
-    let mut bytes = vec![in alloc; b'x'; 70_000]?;
-    put_words(&mut bytes, &LONG, Order::Little);
-    for (name, row) in &FAULTS {
-        if !fault_holds(alloc, &bytes, row)? {
+/// The first file of which a rescue answers or writes something else, or which it doesn't leave as it is.
+fn failing_rescue(alloc: Global) -> Result<Option<&'static str>, AllocError> {
+    for (name, row) in &RESCUES {
+        let bytes = file_of(alloc, row.len, row.fill, row.order, row.words, row.changes)?;
+        let mut disk = disk_of(alloc, &bytes, row.failing)?;
+        let mut out = MemSink::new(alloc);
+        if let Some((call, nth)) = row.failing {
+            out.fail(call, nth)?;
+        }
+        let answer = rescue(alloc, &mut Direct::new(&mut disk, &row.header), &mut out);
+        let is_written = match row.written {
+            Written::Text(text) => out.as_slice() == text,
+            Written::Bytes(count) => out.as_slice().len() == count,
+        };
+        if answer != row.want || !is_written || disk.as_slice() != bytes.as_slice() {
             return Ok(Some(*name));
         }
     }
@@ -175,12 +251,5 @@ fn failing_fault(alloc: Global) -> Result<Option<&'static str>, AllocError> {
 
 #[test]
 fn pairs_are_rescued(rt: HostRuntime) {
-    let alloc = rt.alloc();
-    for (table, failing) in [
-        ("damages", failing_damage(alloc)),
-        ("forms", failing_order(alloc)),
-        ("faults", failing_fault(alloc)),
-    ] {
-        assert_eq!(rt; failing, Ok(None), "{table}");
-    }
+    assert_eq!(rt; failing_rescue(rt.alloc()), Ok(None));
 }

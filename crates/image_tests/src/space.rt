@@ -7,12 +7,12 @@ mod views;
 fn images_are_read_and_written(rt: HostRuntime) {
     let alloc = rt.alloc();
     for (table, failing) in [
-        ("places of records", plain::failing_place(alloc)),
-        ("a chain in big order", plain::failing_chain(alloc)),
+        ("records", plain::failing_record(alloc)),
+        ("heads", plain::failing_head(alloc)),
+        ("pairs", plain::failing_pairs(alloc)),
         ("the room of a record", Ok(plain::failing_room())),
         ("the view of a disk", views::failing_view(alloc)),
         ("a fault of a disk", views::failing_fault(alloc)),
-        ("a hand", Ok(views::failing_hand())),
     ] {
         assert_eq!(rt; failing, Ok(None), "{table}");
     }

@@ -16,6 +16,6 @@ fn undo_areas_bring_files_back(rt: HostRuntime) {
         ("faults", faults::failing_fault(alloc)),
         ("stops", stops::failing_stop(alloc)),
     ] {
-        assert_eq!(rt; failing, None, "{table}");
+        assert_eq!(rt; failing, Ok(None), "{table}");
     }
 }

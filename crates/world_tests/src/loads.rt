@@ -1,31 +1,16 @@
 //! Tests of generated commands, over the public calls of `tdb_gen`: small loads and their summaries, and a larger one
 //! that is done twice.
 
+use crate::files::{NEW, OPTIONS, disk_of};
 use crate::rows::first_false;
+use small_file::HEADER;
 use std::alloc::{AllocError, Global};
 use tdb_check::check;
-use tdb_commands::Options;
 use tdb_disk::{Disk, MemDisk};
 use tdb_gen::{Summary, generate};
 use tdb_log::Log;
 use tdb_space::Direct;
-use tdb_words::{HashKind, Header, Order, header_bytes};
 use tdb_world::World;
-
-const HEADER: Header = Header {
-    order: Order::Little,
-    hash: HashKind::Old,
-    hash_size: 131,
-    recovery_start: 0,
-    sequence: 0,
-};
-
-const OPTIONS: Options = Options {
-    limit: 4294963200,
-    nesting: true,
-    read_only: false,
-    seqnum: false,
-};
 
 /// What an empty file gives for no commands.
 const NOTHING: &[u8] =
@@ -34,18 +19,6 @@ const NOTHING: &[u8] =
 /// And for one command from the seed 1, which stores 150 bytes.
 const ONE_STORE: &[u8] =
     b"commands 1\nok 1\ndata 0\nnoexist 0\nyes 0\nno 0\nfull 0\nmemory 0\nblocked 0\nlive 1\nlength 4096\n";
-
-/// A new file of 131 chains.
-fn new_file(alloc: Global) -> Result<MemDisk, AllocError> {
-    let mut bytes = vec![in alloc; 0u8; 696]?;
-    for (byte, from) in bytes
-        .iter_mut()
-        .zip(header_bytes(131, Order::Little, HashKind::Old))
-    {
-        *byte = from;
-    }
-    MemDisk::new(alloc, &bytes)
-}
 
 /// Generates commands on a file, where that is whole, and gives the disk back.
 fn load<D: Disk>(alloc: Global, disk: D, commands: u32, seed: u32) -> (D, Option<Summary>) {
@@ -59,22 +32,24 @@ fn load<D: Disk>(alloc: Global, disk: D, commands: u32, seed: u32) -> (D, Option
     }
 }
 
-/// How many keys a check counts.
-fn live(alloc: Global, disk: &mut MemDisk) -> Option<u64> {
-    check(alloc, &mut Direct::new(disk, &HEADER))
-        .ok()
-        .map(|report| report.live)
-}
-
 /// How many commands from a seed, and their summary on a new file.
 static LOADS: [(&'static str, u32, u32, &'static [u8]); 2] = [
     ("no command", 0, 7, NOTHING),
     ("one command", 1, 1, ONE_STORE),
 ];
 
-/// Whether commands on a new file have this summary.
+/// A new file after commands from a seed, and their summary.
+fn loaded(
+    alloc: Global,
+    commands: u32,
+    seed: u32,
+) -> Result<(MemDisk, Option<Summary>), AllocError> {
+    Ok(load(alloc, disk_of(alloc, &NEW)?, commands, seed))
+}
+
+/// Whether commands from a seed have this summary on a new file.
 fn load_holds(alloc: Global, commands: u32, seed: u32, text: &[u8]) -> Result<bool, AllocError> {
-    Ok(match load(alloc, new_file(alloc)?, commands, seed) {
+    Ok(match loaded(alloc, commands, seed)? {
         (_, Some(summary)) => summary.text(alloc)?.as_slice() == text,
         (_, None) => false,
     })
@@ -83,7 +58,7 @@ fn load_holds(alloc: Global, commands: u32, seed: u32, text: &[u8]) -> Result<bo
 /// The first load that has another summary.
 fn failing_load(alloc: Global) -> Result<Option<&'static str>, AllocError> {
     for (name, commands, seed, text) in &LOADS {
-        if !load_holds(alloc, *commands, *seed, *text)? {
+        if !load_holds(alloc, *commands, *seed, text)? {
             return Ok(Some(*name));
         }
     }
@@ -92,18 +67,23 @@ fn failing_load(alloc: Global) -> Result<Option<&'static str>, AllocError> {
 
 /// What is otherwise where ten thousand commands are done twice.
 fn failing_second(alloc: Global) -> Result<Option<&'static str>, AllocError> {
-    let (mut first, summary) = load(alloc, new_file(alloc)?, 10_000, 1);
-    let (other, again) = load(alloc, new_file(alloc)?, 10_000, 1);
-    let is_same = summary == again;
-    let commands = summary.as_ref().map(|s| s.commands);
-    let keys = summary.map(|s| s.live);
+    let (mut first, summary) = loaded(alloc, 10_000, 1)?;
+    let (other, again) = loaded(alloc, 10_000, 1)?;
+    let Some(summary) = summary else {
+        return Ok(Some("a summary"));
+    };
+    let is_same = first.as_slice() == other.as_slice();
+    let counted = match check(alloc, &mut Direct::new(&mut first, &HEADER)) {
+        Ok(report) => Some(report.live),
+        Err(_) => None,
+    };
     Ok(first_false(&[
-        ("the same summary", is_same),
-        ("the same file", first.as_slice() == other.as_slice()),
-        ("all commands", commands == Some(10_000)),
+        ("the same summary", again == Some(summary)),
+        ("the same file", is_same),
+        ("all commands", summary.commands == 10_000),
         (
             "the keys that a check counts",
-            keys == live(alloc, &mut first),
+            counted == Some(summary.live),
         ),
     ]))
 }

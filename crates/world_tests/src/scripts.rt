@@ -1,19 +1,21 @@
 //! Tests of scripts and the lines of reports, over the public calls of `tdb_script`: scripts and their bad places, and
 //! the lines of worked reports.
 
+use crate::commands::failing_copy;
 use crate::rows::first_false;
+use crate::world::worlds::print;
 use std::alloc::{AllocError, Global};
-use tdb_commands::{Command, Line, Play, Plays};
+use tdb_commands::{Command, Line, Play, Plays, TurnReport};
 use tdb_disk::{Call, MemSink};
 use tdb_dump::WriteRefusal;
 use tdb_locks::{Reply, Turn};
-use tdb_script::{ScriptRefusal, read_script, text_of_reply, write_line};
+use tdb_script::{ScriptRefusal, read_script, text_of_reply};
 use tdb_steps::Flag;
 use tdb_words::Bytes;
 
-/// How many plays a script says, or where it is malformed.
-fn count_of(alloc: Global, text: &[u8]) -> Result<usize, ScriptRefusal> {
-    Ok(read_script(alloc, text)?.len())
+/// The plays of a script.
+fn plays_of(alloc: Global, text: &[u8]) -> Result<Plays, ScriptRefusal> {
+    read_script(alloc, text)
 }
 
 /// A script, and how many plays it says, or where it is malformed.
@@ -52,7 +54,12 @@ static SCRIPTS: [(&'static str, Script); 24] = [
 /// The first script that says something else.
 fn failing_script(alloc: Global) -> Option<&'static str> {
     for (name, (text, want)) in &SCRIPTS {
-        if count_of(alloc, *text) != want.map_err(|at| ScriptRefusal::Malformed { at }) {
+        let holds = match plays_of(alloc, *text) {
+            Ok(plays) => *want == Ok(plays.len()),
+            Err(ScriptRefusal::Malformed { at }) => *want == Err(at),
+            Err(ScriptRefusal::Memory) => false,
+        };
+        if !holds {
             return Some(*name);
         }
     }
@@ -80,158 +87,162 @@ fn given(alloc: Global) -> Result<Plays, AllocError> {
 /// What is otherwise with the plays of a script.
 fn failing_plays(alloc: Global) -> Result<Option<&'static str>, AllocError> {
     let want = given(alloc)?;
-    let read = read_script(alloc, b"give 2 modify a\\20b 1\ndo 12 lockallread\n");
-    Ok(first_false(&[(
-        "a give and a do",
-        read.is_ok_and(|plays| plays.as_slice() == want.as_slice()),
-    )]))
+    let read = plays_of(alloc, b"give 2 modify a\\20b 1\ndo 12 lockallread\n");
+    let is_so = match read {
+        Ok(plays) => plays.as_slice() == want.as_slice(),
+        Err(_error) => false,
+    };
+    Ok((!is_so).then_some("a give and a do"))
 }
 
-/// A line, which is to be printed so.
-type Printed = (&'static str, Line);
+/// The lines of a value and of a pair.
+const VALUES: &[u8] = b"2 done data(1) = \"1\"\n1 done key(1) = \"a\" data(1) = \"1\"\n";
 
-/// The line of a turn of an opener's check.
-fn turn_line(who: u32, turn: Turn) -> Line {
-    Line::Took {
-        who,
-        command: Command::Check,
-        turn,
-    }
-}
+/// Lines, and how each is printed: first those of an opening, a step and a check that is done.
+const LINES: [(&'static str, Line); 15] = [
+    ("1 open\n", Line::Joined { who: 1 }),
+    (
+        "1 step\n",
+        Line::Took {
+            who: 1,
+            command: Command::Check,
+            turn: Turn::Step,
+        },
+    ),
+    (
+        "1 done ok\n",
+        Line::Took {
+            who: 1,
+            command: Command::Check,
+            turn: Turn::Done(Reply::Ok),
+        },
+    ),
+    (
+        "2 blocked 1 164\n",
+        Line::Took {
+            who: 2,
+            command: Command::Check,
+            turn: Turn::Blocked {
+                owner: 1,
+                byte: 164,
+            },
+        },
+    ),
+    (
+        "grew 696 4096\n",
+        Line::Grew {
+            from: 696,
+            to: 4096,
+        },
+    ),
+    ("2 idle\n", Line::Idle { who: 2 }),
+    ("5 absent\n", Line::Absent { who: 5 }),
+    ("log 0\n", Line::LogsLeft { count: 0 }),
+    ("1 occupied\n", Line::Occupied { who: 1 }),
+    ("1 died\n", Line::Died { who: 1 }),
+    (
+        "1 done end\n",
+        Line::Took {
+            who: 1,
+            command: Command::Check,
+            turn: Turn::Done(Reply::End),
+        },
+    ),
+    (
+        "2 done busy 1 196\n",
+        Line::Took {
+            who: 2,
+            command: Command::Check,
+            turn: Turn::Done(Reply::Busy {
+                owner: 1,
+                byte: 196,
+            }),
+        },
+    ),
+    (
+        "1 done notlocked\n",
+        Line::Took {
+            who: 1,
+            command: Command::Check,
+            turn: Turn::Done(Reply::NotLocked),
+        },
+    ),
+    (
+        "1 done held 1\n",
+        Line::Took {
+            who: 1,
+            command: Command::Check,
+            turn: Turn::Done(Reply::HeldLocks { count: 1 }),
+        },
+    ),
+    (
+        "1 done full 4096 4096\n",
+        Line::Took {
+            who: 1,
+            command: Command::Check,
+            turn: Turn::Done(Reply::Full {
+                len: 4096,
+                need: 4096,
+            }),
+        },
+    ),
+];
 
-/// The line of a check that is done with this reply.
-fn done_line(who: u32, reply: Reply) -> Line {
-    turn_line(who, Turn::Done(reply))
-}
-
-/// The first line that isn't printed so.
-fn first_unlike(alloc: Global, lines: &[Printed]) -> Option<&'static str> {
-    for (text, line) in lines {
+/// The first line that isn't printed so behind those before it.
+fn failing_line(alloc: Global) -> Result<Option<&'static str>, AllocError> {
+    let mut report = TurnReport::new(alloc);
+    let mut want = Vec::new(alloc);
+    for (text, line) in LINES {
+        report.push(line)?;
+        want.extend_from_slice(text.as_bytes())?;
         let mut out = MemSink::new(alloc);
-        let written = write_line(alloc, &mut out, line);
-        if written != Ok(()) || out.as_slice() != text.as_bytes() {
-            return Some(*text);
+        if print(alloc, &mut out, &report) != Ok(()) || out.as_slice() != want.as_slice() {
+            return Ok(Some(text));
         }
     }
-    None
+    Ok(None)
 }
 
-/// The first line of a reply that isn't printed so.
+/// What is otherwise with lines and texts of replies with a value.
 fn failing_reply(alloc: Global) -> Result<Option<&'static str>, AllocError> {
-    let value = Bytes::copy(alloc, b"1")?;
     let key = Bytes::copy(alloc, b"a")?;
-    let pair_value = Bytes::copy(alloc, b"1")?;
-    Ok(first_unlike(
-        alloc,
-        &[
-            (
-                "2 done data(1) = \"1\"\n",
-                done_line(2, Reply::Value(value)),
-            ),
-            (
-                "1 done key(1) = \"a\" data(1) = \"1\"\n",
-                done_line(1, Reply::Pair(key, pair_value)),
-            ),
-            ("1 done end\n", done_line(1, Reply::End)),
-            (
-                "2 done busy 1 196\n",
-                done_line(
-                    2,
-                    Reply::Busy {
-                        owner: 1,
-                        byte: 196,
-                    },
-                ),
-            ),
-            ("1 done notlocked\n", done_line(1, Reply::NotLocked)),
-            (
-                "1 done held 1\n",
-                done_line(1, Reply::HeldLocks { count: 1 }),
-            ),
-            (
-                "1 done full 4096 4096\n",
-                done_line(
-                    1,
-                    Reply::Full {
-                        len: 4096,
-                        need: 4096,
-                    },
-                ),
-            ),
-        ],
-    ))
-}
-
-/// The first line that isn't printed so.
-fn failing_line(alloc: Global) -> Option<&'static str> {
-    first_unlike(
-        alloc,
-        &[
-            ("1 open\n", Line::Joined { who: 1 }),
-            ("1 step\n", turn_line(1, Turn::Step)),
-            (
-                "2 blocked 1 164\n",
-                turn_line(
-                    2,
-                    Turn::Blocked {
-                        owner: 1,
-                        byte: 164,
-                    },
-                ),
-            ),
-            (
-                "grew 696 4096\n",
-                Line::Grew {
-                    from: 696,
-                    to: 4096,
-                },
-            ),
-            ("1 done ok\n", done_line(1, Reply::Ok)),
-            ("2 idle\n", Line::Idle { who: 2 }),
-            ("5 absent\n", Line::Absent { who: 5 }),
-            ("log 0\n", Line::LogsLeft { count: 0 }),
-            ("1 occupied\n", Line::Occupied { who: 1 }),
-            ("1 died\n", Line::Died { who: 1 }),
-        ],
-    )
-}
-
-/// What is otherwise with lines one behind the other, and the text of a reply.
-fn failing_text(alloc: Global) -> Result<Option<&'static str>, AllocError> {
+    let mut report = TurnReport::new(alloc);
+    report.push(Line::Took {
+        who: 2,
+        command: Command::Check,
+        turn: Turn::Done(Reply::Value(Bytes::copy(alloc, b"1")?)),
+    })?;
+    report.push(Line::Took {
+        who: 1,
+        command: Command::Check,
+        turn: Turn::Done(Reply::Pair(key, Bytes::copy(alloc, b"1")?)),
+    })?;
     let mut out = MemSink::new(alloc);
-    let mut whole = true;
-    for line in [
-        Line::Joined { who: 1 },
-        turn_line(1, Turn::Step),
-        done_line(1, Reply::Ok),
-    ] {
-        if write_line(alloc, &mut out, &line).is_err() {
-            whole = false;
-        }
-    }
-    let number = text_of_reply(alloc, &Reply::Number(7));
+    let printed = print(alloc, &mut out, &report);
+    let is_number = match text_of_reply(alloc, &Reply::Number(7)) {
+        Ok(text) => text.as_slice() == b"number 7".as_slice(),
+        Err(_) => false,
+    };
     Ok(first_false(&[
-        ("three lines", whole),
-        (
-            "one behind the other",
-            out.as_slice() == b"1 open\n1 step\n1 done ok\n".as_slice(),
-        ),
-        (
-            "the text of a number",
-            number.is_ok_and(|text| text.as_slice() == b"number 7".as_slice()),
-        ),
+        ("a value and a pair", printed == Ok(())),
+        ("their lines", out.as_slice() == VALUES),
+        ("the text of a number", is_number),
     ]))
 }
 
 /// What is otherwise where the second write of a sink fails.
 fn failing_sink(alloc: Global) -> Result<Option<&'static str>, AllocError> {
+    let mut report = TurnReport::new(alloc);
+    report.push(Line::JoinMany)?;
+    report.push(Line::JoinMemory)?;
     let mut out = MemSink::new(alloc);
     out.fail(Call::Write, 1)?;
-    let first = write_line(alloc, &mut out, &Line::JoinMany);
-    let second = write_line(alloc, &mut out, &Line::JoinMemory);
+    let printed = print(alloc, &mut out, &report);
     Ok(first_false(&[
-        ("the first line", first == Ok(())),
-        ("the second one fails", second == Err(WriteRefusal::Failed)),
+        (
+            "the second line fails",
+            printed == Err(WriteRefusal::Failed),
+        ),
         (
             "one line is written",
             out.as_slice() == b"open many\n".as_slice(),
@@ -246,9 +257,9 @@ fn scripts_are_read_and_lines_written(rt: HostRuntime) {
         ("scripts", Ok(failing_script(alloc))),
         ("plays of a script", failing_plays(alloc)),
         ("replies", failing_reply(alloc)),
-        ("lines", Ok(failing_line(alloc))),
-        ("texts", failing_text(alloc)),
+        ("lines", failing_line(alloc)),
         ("a sink that fails", failing_sink(alloc)),
+        ("copies", failing_copy(alloc)),
     ] {
         assert_eq!(rt; failing, Ok(None), "{table}");
     }

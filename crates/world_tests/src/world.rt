@@ -4,7 +4,7 @@ mod files;
 mod rows;
 mod stops;
 mod tables;
-mod worlds;
+pub(crate) mod worlds;
 
 #[test]
 fn plays_are_told_and_stop(rt: HostRuntime) {

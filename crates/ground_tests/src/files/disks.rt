@@ -1,7 +1,11 @@
-// Calls of a real disk: which of them are done, and what the system has in the file then.
+// Calls of a real disk, and what other programs do with the file meanwhile: which calls are done, and what the system
+// has then.
 
-use crate::files::folder::{has, lay, mode_of};
-use std::fs::OpenOptions;
+use crate::edits::{Edit, is_done};
+use crate::files::folder::{Left, Lock, gets_lock, has_all, is_told, lay, mode_of, open_other};
+use crate::rows::Row;
+use std::time::Duration;
+use std::{fs, io, thread};
 use tdb_disk::{Disk, Files, Take};
 use tdb_files::DirFiles;
 
@@ -10,180 +14,320 @@ const FILE: &str = "tdb_files_test/disk";
 /// The name of the file while it is new.
 const PART: &str = "tdb_files_test/disk.tdb-new";
 
-#[derive(Clone, Copy)]
-pub(crate) enum Call {
-    Grow(u64),
-    Write(u64, &'static [u8]),
-    WriteWord(u64, [u8; 4]),
-    Cut(u64),
-    Sync,
+/// Another name in the folder.
+const OTHER: &str = "tdb_files_test/other";
+
+/// What is done while the file is taken.
+enum Step {
+    /// A call, whether it is done, and what the system has in the file then.
+    Call(Edit, bool, Option<&'static [u8]>),
+    /// A lock that another run asks for, and whether it gets it.
+    Lock(Lock, bool),
+    /// What another program does, once the clock of the file system has gone on.
+    Other(Change),
 }
 
-/// A call, whether it is done, and what the system has in the file then.
-type Step = (Call, bool, &'static [u8]);
+/// What another program does with the file.
+enum Change {
+    Nothing,
+    Read,
+    Write,
+    Cut,
+    Link,
+    Replace,
+    MoveAway,
+    Remove,
+}
 
-/// What is laid as the file before, if anything is, its permissions, how it is taken, and the calls that are made then.
-/// The eight bytes that a read gives after these, and that the system has in the file once it is given back.
-struct Case {
+/// What is laid as the file before, if anything is, how it is taken, the name that the system has it by then, its
+/// permissions, and what is done. What is left once it is given back, and what a user is told of the last fault, where
+/// that is looked at.
+pub(crate) struct Case {
     laid: Option<&'static [u8]>,
-    mode: u32,
     how: Take,
-    steps: &'static [(&'static str, Step)],
-    left: [u8; 8],
+    path: &'static str,
+    mode: u32,
+    steps: &'static [Step],
+    left: &'static [Left],
+    told: Option<&'static str>,
 }
 
 /// Each case finds the file as the one before left it, where none is laid.
-static CASES: [(&'static str, Case); 3] = [
+pub(crate) static CASES: [(&'static str, Case); 3] = [
     // A growth and a cut reach the file at once. What is written does at the next sync, or once the file is given back.
     (
         "a new file",
         Case {
             laid: None,
-            mode: 0o600,
             how: Take::New,
+            path: PART,
+            mode: 0o600,
             steps: &[
-                ("a growth", (Call::Grow(12), true, &[0; 12])),
-                ("a write", (Call::Write(2, b"bytes"), true, &[0; 12])),
-                ("a word", (Call::WriteWord(8, *b"word"), true, &[0; 12])),
-                ("a cut", (Call::Cut(8), true, &[0; 8])),
-                ("a sync", (Call::Sync, true, b"\0\0bytes\0")),
-                (
-                    "a write after the sync",
-                    (Call::Write(0, b"my"), true, b"\0\0bytes\0"),
-                ),
+                Step::Call(Edit::Grow(12), true, Some(&[0; 12])),
+                Step::Call(Edit::Write(2, b"bytes"), true, Some(&[0; 12])),
+                Step::Call(Edit::Word(8, *b"word"), true, Some(&[0; 12])),
+                Step::Call(Edit::Cut(8), true, Some(&[0; 8])),
+                Step::Call(Edit::Sync, true, Some(b"\0\0bytes\0")),
+                Step::Call(Edit::Write(0, b"my"), true, Some(b"\0\0bytes\0")),
+                Step::Call(Edit::Len(8), true, Some(b"\0\0bytes\0")),
+                Step::Call(Edit::Read(0, b"mybytes\0"), true, Some(b"\0\0bytes\0")),
             ],
-            left: *b"mybytes\0",
+            left: &[(FILE, Some(b"mybytes\0")), (PART, None)],
+            told: None,
         },
     ),
     (
         "a file that is only read",
         Case {
             laid: None,
-            mode: 0o600,
             how: Take::ReadOnly,
-            steps: &[(
-                "a growth of what is only read",
-                (Call::Grow(16), false, b"mybytes\0"),
-            )],
-            left: *b"mybytes\0",
+            path: FILE,
+            mode: 0o600,
+            steps: &[
+                Step::Call(Edit::Grow(16), false, Some(b"mybytes\0")),
+                Step::Call(Edit::Len(8), true, Some(b"mybytes\0")),
+                Step::Call(Edit::Read(0, b"mybytes\0"), true, Some(b"mybytes\0")),
+            ],
+            left: &[(FILE, Some(b"mybytes\0")), (PART, None)],
+            told: None,
         },
     ),
     (
         "a file that may only be read",
         Case {
             laid: Some(b"12345678"),
-            mode: 0o444,
             how: Take::Existing,
+            path: FILE,
+            mode: 0o444,
             steps: &[
-                (
-                    "a write to what may only be read",
-                    (Call::Write(0, b"a"), false, b"12345678"),
-                ),
-                (
-                    "a word to what may only be read",
-                    (Call::WriteWord(0, *b"word"), false, b"12345678"),
-                ),
-                (
-                    "a growth of what may only be read",
-                    (Call::Grow(16), false, b"12345678"),
-                ),
-                (
-                    "a cut of what may only be read",
-                    (Call::Cut(4), false, b"12345678"),
-                ),
+                Step::Call(Edit::Write(0, b"a"), false, Some(b"12345678")),
+                Step::Call(Edit::Word(0, *b"word"), false, Some(b"12345678")),
+                Step::Call(Edit::Grow(16), false, Some(b"12345678")),
+                Step::Call(Edit::Cut(4), false, Some(b"12345678")),
+                Step::Call(Edit::Len(8), true, Some(b"12345678")),
+                Step::Call(Edit::Read(0, b"12345678"), true, Some(b"12345678")),
             ],
-            left: *b"12345678",
+            left: &[(FILE, Some(b"12345678")), (PART, None)],
+            told: None,
         },
     ),
 ];
 
-/// Makes a call, and says whether it is done. None where it has no place in the file.
-pub(crate) fn is_done<D: Disk>(disk: &mut D, call: Call) -> Option<bool> {
-    let len = disk.len().ok()?;
-    let answer = match call {
-        Call::Grow(to) if len <= to => disk.grow(to),
-        Call::Write(off, bytes) if off <= len && bytes.len() as u64 <= len - off => {
-            disk.write(off, bytes)
+/// A write, after which another program does something, or nothing; then this run writes again.
+const BESIDE: Case = Case {
+    laid: Some(b"12345678"),
+    how: Take::Existing,
+    path: FILE,
+    mode: 0o600,
+    steps: &[],
+    left: &[],
+    told: Some("tdb_files_test/disk: the file was changed by another program"),
+};
+
+const FIRST: Step = Step::Call(Edit::Write(0, b"first"), true, Some(b"first678"));
+
+/// What the other program does, and whether the file is changed by this run then. After a write that isn't done there
+/// is nothing of it in the file, and no call changes it any more.
+pub(crate) static BENEATH: [(&'static str, Case); 8] = [
+    (
+        "nothing",
+        Case {
+            steps: &[
+                FIRST,
+                Step::Other(Change::Nothing),
+                Step::Call(Edit::Write(3, b"?"), true, Some(b"fir?t678")),
+                Step::Call(Edit::Sync, true, Some(b"fir?t678")),
+            ],
+            left: &[(FILE, Some(b"fir?t678"))],
+            told: Some(""),
+            ..BESIDE
+        },
+    ),
+    (
+        "a read",
+        Case {
+            steps: &[
+                FIRST,
+                Step::Other(Change::Read),
+                Step::Call(Edit::Write(3, b"?"), true, Some(b"fir?t678")),
+                Step::Call(Edit::Sync, true, Some(b"fir?t678")),
+            ],
+            left: &[(FILE, Some(b"fir?t678"))],
+            told: Some(""),
+            ..BESIDE
+        },
+    ),
+    (
+        "a write of as many bytes",
+        Case {
+            steps: &[
+                FIRST,
+                Step::Other(Change::Write),
+                Step::Call(Edit::Write(3, b"?"), false, Some(b"87654321")),
+                Step::Call(Edit::Sync, false, Some(b"87654321")),
+            ],
+            left: &[(FILE, Some(b"87654321"))],
+            ..BESIDE
+        },
+    ),
+    (
+        "a cut",
+        Case {
+            steps: &[
+                FIRST,
+                Step::Other(Change::Cut),
+                Step::Call(Edit::Write(3, b"?"), false, Some(b"firs")),
+                Step::Call(Edit::Sync, false, Some(b"firs")),
+            ],
+            left: &[(FILE, Some(b"firs"))],
+            ..BESIDE
+        },
+    ),
+    (
+        "another name",
+        Case {
+            steps: &[
+                FIRST,
+                Step::Other(Change::Link),
+                Step::Call(Edit::Write(3, b"?"), false, Some(b"first678")),
+                Step::Call(Edit::Sync, false, Some(b"first678")),
+            ],
+            left: &[(FILE, Some(b"first678")), (OTHER, Some(b"first678"))],
+            ..BESIDE
+        },
+    ),
+    (
+        "another file at the name",
+        Case {
+            steps: &[
+                FIRST,
+                Step::Other(Change::Replace),
+                Step::Call(Edit::Write(3, b"?"), false, Some(b"12345678")),
+                Step::Call(Edit::Sync, false, Some(b"12345678")),
+            ],
+            left: &[(FILE, Some(b"12345678")), (OTHER, None)],
+            ..BESIDE
+        },
+    ),
+    (
+        "another name, and another file at its own",
+        Case {
+            steps: &[
+                FIRST,
+                Step::Other(Change::MoveAway),
+                Step::Call(Edit::Write(3, b"?"), false, Some(b"12345678")),
+                Step::Call(Edit::Sync, false, Some(b"12345678")),
+            ],
+            left: &[(FILE, Some(b"12345678")), (OTHER, Some(b"first678"))],
+            ..BESIDE
+        },
+    ),
+    (
+        "no file at the name",
+        Case {
+            steps: &[
+                FIRST,
+                Step::Other(Change::Remove),
+                Step::Call(Edit::Write(3, b"?"), false, None),
+                Step::Call(Edit::Sync, false, None),
+            ],
+            left: &[(FILE, None)],
+            ..BESIDE
+        },
+    ),
+];
+
+/// Locks that another run asks for while the file is taken.
+pub(crate) static LOCKED: [(&'static str, Case); 3] = [
+    (
+        "to read what may be changed",
+        Case {
+            steps: &[Step::Lock(Lock::Shared, false)],
+            told: None,
+            ..BESIDE
+        },
+    ),
+    (
+        "to read what is read",
+        Case {
+            how: Take::ReadOnly,
+            steps: &[Step::Lock(Lock::Shared, true)],
+            told: None,
+            ..BESIDE
+        },
+    ),
+    (
+        "to change what is read",
+        Case {
+            how: Take::ReadOnly,
+            steps: &[Step::Lock(Lock::Exclusive, false)],
+            told: None,
+            ..BESIDE
+        },
+    ),
+];
+
+/// What the other program does, once the clock of the file system has gone on.
+fn make_change(rt: HostRuntime, change: &Change) -> io::Result<()> {
+    thread::sleep(&rt, Duration::from_millis(30));
+    match change {
+        Change::Nothing => Ok(()),
+        Change::Read => fs::read(&rt, FILE).map(drop),
+        Change::Write => fs::write(&rt, FILE, b"87654321"),
+        Change::Cut => open_other(rt, FILE)?.set_len(4),
+        Change::Link => fs::hard_link(&rt, FILE, OTHER),
+        Change::Replace => {
+            lay(rt, OTHER, b"12345678", 0o600)?;
+            fs::rename(&rt, OTHER, FILE)
         }
-        Call::WriteWord(off, word) if off % 4 == 0 && off <= len && 4 <= len - off => {
-            disk.write_word(off, word)
+        Change::MoveAway => {
+            fs::rename(&rt, FILE, OTHER)?;
+            lay(rt, FILE, b"12345678", 0o600)
         }
-        Call::Cut(to) if to <= len => disk.cut(to),
-        Call::Sync => disk.sync(),
-        _ => return None,
-    };
-    Some(answer.is_ok())
-}
-
-/// The first call that doesn't go so.
-fn failing_step<D: Disk>(
-    rt: HostRuntime,
-    path: &str,
-    disk: &mut D,
-    steps: &[(&'static str, Step)],
-) -> Option<&'static str> {
-    for (name, (call, done, kept)) in steps {
-        if is_done(disk, *call) != Some(*done) || !has(rt, path, kept) {
-            return Some(*name);
-        }
-    }
-    None
-}
-
-/// Whether a read of a whole file gives these bytes.
-fn shows<D: Disk>(disk: &mut D, want: [u8; 8]) -> bool {
-    let mut bytes = [0; 8];
-    disk.len() == Ok(8) && disk.read(0, &mut bytes).is_ok() && bytes == want
-}
-
-/// How the file is taken: root may write what may only be read all the same, and takes it as one that is only read.
-fn how_taken(rt: HostRuntime, how: Take) -> Take {
-    match OpenOptions::new().write(true).open(&rt, FILE) {
-        Ok(_) if how == Take::Existing => Take::ReadOnly,
-        _ => how,
+        Change::Remove => fs::remove_file(&rt, FILE),
     }
 }
 
-/// Lays the file, where one is to be laid, and says whether that went well.
-fn is_laid(rt: HostRuntime, case: &Case) -> bool {
-    match case.laid {
-        Some(content) => lay(rt, FILE, content, case.mode).is_ok(),
-        None => true,
-    }
-}
-
-/// The first call of a case that doesn't go so, or else the name of the case, where something else doesn't.
-fn failing_of(rt: HostRuntime, name: &'static str, case: &Case) -> Option<&'static str> {
-    if !is_laid(rt, case) {
-        return Some(name);
-    }
-    let mut files = DirFiles::new(rt);
-    let Ok(mut disk) = files.take(rt.alloc(), FILE, how_taken(rt, case.how)) else {
-        return Some(name);
-    };
-    let path = match case.how {
-        Take::New => PART,
-        _ => FILE,
-    };
-    let has_mode = matches!(mode_of(rt, path), Ok(mode) if mode == case.mode);
-    let failing = failing_step(rt, path, &mut disk, case.steps);
-    let is_shown = shows(&mut disk, case.left);
-    files.give(FILE, disk);
-    if failing.is_none()
-        && !(has_mode && is_shown && has(rt, FILE, &case.left) && !has(rt, PART, &case.left))
-    {
-        return Some(name);
-    }
-    failing
-}
-
-/// The first call of all cases that doesn't go so, or the first case of which something else doesn't.
-pub(crate) fn failing_call(rt: HostRuntime) -> Option<&'static str> {
-    for (name, case) in &CASES {
-        let failing = failing_of(rt, *name, case);
-        if failing.is_some() {
-            return failing;
+impl Case {
+    /// Whether a step goes so.
+    fn goes<D: Disk>(&self, rt: HostRuntime, disk: &mut D, step: &Step) -> bool {
+        match step {
+            Step::Call(edit, done, kept) => {
+                is_done(disk, edit) == Some(*done) && has_all(rt, &[(self.path, *kept)])
+            }
+            Step::Lock(lock, given) => match open_other(rt, FILE) {
+                Ok(other) => gets_lock(&other, lock) == *given,
+                Err(_) => false,
+            },
+            Step::Other(change) => make_change(rt, change).is_ok(),
         }
     }
-    None
+}
+
+impl Row for Case {
+    // Root may write what may only be read all the same, and takes it as one that is only read. Nobody else may lay a
+    // file over one that may only be read, so that is removed before.
+    fn holds(&self, rt: HostRuntime) -> Option<bool> {
+        let _ = fs::remove_file(&rt, OTHER);
+        if let Some(content) = self.laid {
+            let _ = fs::remove_file(&rt, FILE);
+            lay(rt, FILE, content, self.mode).ok()?;
+        }
+        let how = match open_other(rt, FILE) {
+            Ok(_) if self.mode == 0o444 => Take::ReadOnly,
+            _ => self.how,
+        };
+        let mut files = DirFiles::new(rt);
+        let mut disk = files.take(rt.alloc(), FILE, how).ok()?;
+        let mut is_so = matches!(mode_of(rt, self.path), Ok(mode) if mode == self.mode);
+        for step in self.steps {
+            is_so = is_so && self.goes(rt, &mut disk, step);
+        }
+        files.give(FILE, disk);
+        let is_told = match self.told {
+            Some(text) => is_told(rt, files.last_fault(), text),
+            None => true,
+        };
+        Some(is_so && is_told && has_all(rt, self.left))
+    }
 }

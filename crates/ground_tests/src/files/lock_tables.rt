@@ -1,23 +1,24 @@
 // The system's table of locks, and the names of processes.
 
-use std::fmt;
+use crate::rows::Row;
 use tdb_files::{Holder, Identity, LockFamily, ProcessName, find_lock, has_lock};
 
-/// The number of this process.
+/// The number of this process, and that of another one.
 const OWN: u32 = 77;
 
+const OTHER: u32 = 1234;
+
 /// Whose lock on the file 08:02:393225 is found first in a table.
-#[derive(Clone, Copy, PartialEq, Eq)]
-enum Whose {
+pub(crate) enum Whose {
     Nobody,
-    /// Process 1234.
+    /// The process `OTHER`.
     Other,
     /// A process that can't be told.
     Unknown,
 }
 
 /// A table, and whose lock of each family is found first, but for this process.
-struct Found {
+pub(crate) struct Found {
     table: &'static str,
     other: Whose,
     whole: Whose,
@@ -30,7 +31,7 @@ const NOTHING: Found = Found {
     whole: Whose::Nobody,
 };
 
-static TABLES: [(&'static str, Found); 9] = [
+pub(crate) static TABLES: [(&'static str, Found); 9] = [
     ("no lines", NOTHING),
     (
         "lines that are none of the table",
@@ -96,65 +97,64 @@ static TABLES: [(&'static str, Found); 9] = [
     ),
 ];
 
-/// Whose lock of this family is found in a table.
-fn found_in(table: &str, family: LockFamily) -> Whose {
-    let file = Identity::on_device(8, 2, 393225);
-    match find_lock(table, file, family, OWN) {
-        Some(entry) if entry.process.is_none() => Whose::Unknown,
-        Some(entry) if entry.process == Some(1234) && has_lock(table, file, family, 1234) => {
-            Whose::Other
+impl Row for Found {
+    fn holds(&self, _rt: HostRuntime) -> Option<bool> {
+        let file = Identity::on_device(8, 2, 393225);
+        for (family, whose) in [
+            (LockFamily::Other, &self.other),
+            (LockFamily::Whole, &self.whole),
+        ] {
+            let is_so = match (find_lock(self.table, file, family, OWN), whose) {
+                (None, Whose::Nobody) => true,
+                (Some(entry), Whose::Unknown) => entry.process.is_none(),
+                (Some(entry), Whose::Other) => {
+                    entry.process == Some(OTHER) && has_lock(self.table, file, family, OTHER)
+                }
+                _ => false,
+            };
+            if !is_so {
+                return Some(false);
+            }
         }
-        _ => Whose::Nobody,
+        Some(true)
     }
 }
 
-/// Whether these are the locks that are found in a table.
-fn is_found(row: &Found) -> bool {
-    found_in(row.table, LockFamily::Other) == row.other
-        && found_in(row.table, LockFamily::Whole) == row.whole
-}
+/// The name of a process as the system's file has it, where it can be told, and how its holder is shown.
+pub(crate) struct Shown(Option<&'static [u8]>, &'static str);
 
-/// The first table in which others are found.
-pub(crate) fn failing_table() -> Option<&'static str> {
-    for (label, row) in &TABLES {
-        if !is_found(row) {
-            return Some(*label);
-        }
-    }
-    None
-}
-
-/// The name of a process as the system's file has it, and as it is shown.
-static NAMES: [(&'static [u8], &'static str); 7] = [
-    (b"smbd\n", "smbd (process 7)"),
-    (b"", " (process 7)"),
-    (b"\n", " (process 7)"),
-    (b"two words\n", "two words (process 7)"),
-    (b"two\nlines\n", "two?lines (process 7)"),
-    (b"\x1b[2J\xc3\xa9\n", "?[2J?? (process 7)"),
+pub(crate) static HOLDERS: [(&'static str, Shown); 8] = [
+    ("a line", Shown(Some(b"smbd\n"), "smbd (process 7)")),
+    ("nothing", Shown(Some(b""), " (process 7)")),
+    ("an empty line", Shown(Some(b"\n"), " (process 7)")),
     (
-        b"a name that is longer than\n",
-        "a name that is l (process 7)",
+        "two words",
+        Shown(Some(b"two words\n"), "two words (process 7)"),
     ),
+    (
+        "two lines",
+        Shown(Some(b"two\nlines\n"), "two?lines (process 7)"),
+    ),
+    (
+        "bytes that aren't printed",
+        Shown(Some(b"\x1b[2J\xc3\xa9\n"), "?[2J?? (process 7)"),
+    ),
+    (
+        "a long name",
+        Shown(
+            Some(b"a name that is longer than\n"),
+            "a name that is l (process 7)",
+        ),
+    ),
+    ("nobody that can be told", Shown(None, "another program")),
 ];
 
-/// Whether the text that is told is this one.
-fn is_told<T: fmt::Display + Drop>(rt: HostRuntime, told: T, text: &str) -> bool {
-    match format!(in rt.alloc(); "{told}") {
-        Ok(told) => told.as_str() == text,
-        Err(_) => false,
+impl Row for Shown {
+    fn holds(&self, rt: HostRuntime) -> Option<bool> {
+        let holder = match self.0 {
+            Some(name) => Holder::Named(ProcessName::of_file(name), 7),
+            None => Holder::Unknown,
+        };
+        Some(format!(in rt.alloc(); "{holder}").ok()?.as_str() == self.1)
     }
-}
-
-/// The first name that is shown otherwise, as it is wanted.
-pub(crate) fn failing_name(rt: HostRuntime) -> Option<&'static str> {
-    for (name, text) in &NAMES {
-        if !is_told(rt, Holder::Named(ProcessName::of_file(*name), 7), *text) {
-            return Some(*text);
-        }
-    }
-    if !is_told(rt, Holder::Unknown, "another program") {
-        return Some("another program");
-    }
-    None
 }

@@ -2,35 +2,26 @@
 
 ghost use Rattle.std.specs.Prelude.{◌≡◌};
 
-use crate::chain::files::{HASH_OF_A, HASH_OF_B, header, image_of, image_with};
-use crate::rows::first_false;
+use crate::chain::files::{Changed, HASH_OF_A, HASH_OF_B, NOTHING, header, image_of};
+use crate::files::disk_of;
 use std::alloc::{AllocError, Global};
 use tdb_chain::{Place, find, link, mark_dead, purge, raise_seq, unlink, update_in_place};
 use tdb_disk::{Call, MemDisk};
 use tdb_space::{Direct, Hand, Io, Space, content_stands, read_rec};
 use tdb_words::{DEAD, Order, USED};
 
-#[derive(Clone, Copy, Debug)]
+/// What is done to the file. A new record has this key and this value, and so many bytes at 272 behind its header.
 enum Change {
-    UnlinkEmpty,
-    PurgeFirst,
-    MarkDead,
-    Update,
     Raise,
-    LinkNew,
-    LinkLong,
-    Replace,
-}
-
-// A hand as its offset and its length.
-fn told(hand: Hand) -> (u32, u32) {
-    let pair = (hand.off(), hand.rec_len());
-    hand.end();
-    pair
+    PurgeFirst,
+    Unlink(&'static [u8]),
+    MarkDead(&'static [u8]),
+    Update(&'static [u8]),
+    Link(&'static [u8], &'static [u8], u32),
 }
 
 // Purges the first record, which is dead.
-fn purge_first(s: &mut Direct<MemDisk>) -> Result<Option<(u32, u32)>, Io> {
+fn purge_first(s: &mut Direct<MemDisk>) -> Result<Option<Hand>, Io> {
     let len = s.len()?;
     if len < 208 {
         return Ok(None);
@@ -44,89 +35,152 @@ fn purge_first(s: &mut Direct<MemDisk>) -> Result<Option<(u32, u32)>, Io> {
         before: 172,
         rec,
     };
-    Ok(Some(told(purge(s, place)?)))
+    Ok(Some(purge(s, place)?))
 }
 
-// Makes a change of the file, and answers the hand that it gives.
-fn make(s: &mut Direct<MemDisk>, change: Change) -> Result<Option<(u32, u32)>, Io>
+// Changes the record of a key, which has at most one byte, or makes it.
+fn change_key(s: &mut Direct<MemDisk>, key: &[u8], change: &Change) -> Result<Option<Hand>, Io>
     requires { s.old.header.hash_size ≡ 1 }
 {
+    if key.len() > 1 {
+        return Ok(None);
+    }
+    let found = find(s, key)?;
+    if let Change::Link(_, value, rec_len) = change {
+        if value.len() > 3 || *rec_len < 8 || *rec_len % 4 != 0 {
+            return Ok(None);
+        }
+        return link(s, Hand::new(272, *rec_len), key, value, found);
+    }
+    let Some(place) = found else {
+        return Ok(None);
+    };
     match change {
-        Change::UnlinkEmpty => match find(s, b"")? {
-            Some(place) => Ok(Some(told(unlink(s, place)?))),
-            None => Ok(None),
-        },
-        Change::PurgeFirst => purge_first(s),
-        Change::MarkDead => {
-            if let Some(place) = find(s, b"a")? {
-                mark_dead(s, &place)?;
-            }
-            Ok(None)
-        }
-        Change::Update => {
-            if let Some(place) = find(s, b"a")? {
-                if place.rec.key_len == 1 && place.rec.rec_len == 8 {
-                    update_in_place(s, &place, b"23")?;
-                }
-            }
-            Ok(None)
-        }
-        Change::Raise => {
-            raise_seq(s)?;
-            Ok(None)
-        }
-        Change::LinkNew => match link(s, Hand::new(272, 16), b"b", b"xyz", None)? {
-            Some(hand) => Ok(Some(told(hand))),
-            None => Ok(None),
-        },
-        Change::LinkLong => match link(s, Hand::new(272, 8212), b"b", b"xyz", None)? {
-            Some(hand) => Ok(Some(told(hand))),
-            None => Ok(None),
-        },
-        Change::Replace => {
-            let old = find(s, b"a")?;
-            match link(s, Hand::new(272, 16), b"a", b"4", old)? {
-                Some(hand) => Ok(Some(told(hand))),
-                None => Ok(None),
+        Change::Unlink(_) => return Ok(Some(unlink(s, place)?)),
+        Change::MarkDead(_) => mark_dead(s, &place)?,
+        _ => {
+            if place.rec.key_len == 1 && place.rec.rec_len == 8 {
+                update_in_place(s, &place, b"23")?;
             }
         }
     }
+    Ok(None)
 }
 
-/// Words and contents over those of the file.
-type Changed = (&'static [(usize, u32)], &'static [(usize, [u8; 4])]);
+// Makes a change of the file, and answers the hand that it gives, as its offset and its length.
+fn make(disk: &mut MemDisk, order: Order, change: &Change) -> Result<Option<(u32, u32)>, Io> {
+    let mut s = Direct::new(disk, &header(order));
+    let given = match change {
+        Change::Raise => {
+            raise_seq(&mut s)?;
+            None
+        }
+        Change::PurgeFirst => purge_first(&mut s)?,
+        Change::Unlink(key)
+        | Change::MarkDead(key)
+        | Change::Update(key)
+        | Change::Link(key, _, _) => change_key(&mut s, key, change)?,
+    };
+    let Some(hand) = given else {
+        return Ok(None);
+    };
+    let told = (hand.off(), hand.rec_len());
+    hand.end();
+    Ok(Some(told))
+}
 
-/// The hand that a change gives, and what it changes.
-type Done = (Change, Option<(u32, u32)>, Changed);
+/// A change of the file in so many bytes, the call that fails in it, the hand that it gives, and what it leaves, where
+/// that is looked at.
+struct Done {
+    change: Change,
+    len: usize,
+    failing: Option<(Call, u64)>,
+    given: Result<Option<(u32, u32)>, Io>,
+    left: Option<Changed>,
+}
 
-static CHANGES: [(&'static str, Done); 7] = [
+/// A change that gives nothing and leaves the file as it is.
+const RAISED: Done = Done {
+    change: Change::Raise,
+    len: 312,
+    failing: None,
+    given: Ok(None),
+    left: Some(NOTHING),
+};
+
+/// A piece of a record of more than 4096 bytes that isn't written.
+const PIECE: Done = Done {
+    change: Change::Link(b"b", b"xyz", 8212),
+    len: 8508,
+    failing: Some((Call::Write, 0)),
+    given: Err(Io),
+    left: None,
+};
+
+static CHANGES: [(&'static str, Done); 24] = [
     (
-        "the empty key is unlinked",
-        (Change::UnlinkEmpty, Some((208, 8)), (&[(176, 240)], &[])),
+        "the sequence number is raised",
+        Done {
+            left: Some(Changed {
+                words: &[(48, 1)],
+                ..NOTHING
+            }),
+            ..RAISED
+        },
     ),
     (
         "the first record is purged",
-        (Change::PurgeFirst, Some((176, 8)), (&[(172, 208)], &[])),
+        Done {
+            change: Change::PurgeFirst,
+            given: Ok(Some((176, 8))),
+            left: Some(Changed {
+                words: &[(172, 208)],
+                ..NOTHING
+            }),
+            ..RAISED
+        },
+    ),
+    (
+        "the empty key is unlinked",
+        Done {
+            change: Change::Unlink(b""),
+            given: Ok(Some((208, 8))),
+            left: Some(Changed {
+                words: &[(176, 240)],
+                ..NOTHING
+            }),
+            ..RAISED
+        },
     ),
     (
         "a record is marked dead",
-        (Change::MarkDead, None, (&[(260, DEAD)], &[])),
+        Done {
+            change: Change::MarkDead(b"a"),
+            left: Some(Changed {
+                words: &[(260, DEAD)],
+                ..NOTHING
+            }),
+            ..RAISED
+        },
     ),
     (
         "a value is updated",
-        (Change::Update, None, (&[(252, 2)], &[(264, *b"a23B")])),
-    ),
-    (
-        "the sequence number is raised",
-        (Change::Raise, None, (&[(48, 1)], &[])),
+        Done {
+            change: Change::Update(b"a"),
+            left: Some(Changed {
+                words: &[(252, 2)],
+                contents: &[(264, *b"a23B")],
+                ..NOTHING
+            }),
+            ..RAISED
+        },
     ),
     (
         "a new record",
-        (
-            Change::LinkNew,
-            None,
-            (
-                &[
+        Done {
+            change: Change::Link(b"b", b"xyz", 16),
+            left: Some(Changed {
+                words: &[
                     (172, 272),
                     (272, 176),
                     (276, 16),
@@ -134,21 +188,21 @@ static CHANGES: [(&'static str, Done); 7] = [
                     (284, 3),
                     (288, HASH_OF_B),
                     (292, USED),
-                    (300, 0x4242_4242),
-                    (304, 0x4242_4242),
                     (308, 40),
                 ],
-                &[(296, *b"bxyz")],
-            ),
-        ),
+                contents: &[(296, *b"bxyz")],
+                padding: 8,
+            }),
+            ..RAISED
+        },
     ),
     (
         "a record in place of another",
-        (
-            Change::Replace,
-            Some((240, 8)),
-            (
-                &[
+        Done {
+            change: Change::Link(b"a", b"4", 16),
+            given: Ok(Some((240, 8))),
+            left: Some(Changed {
+                words: &[
                     (172, 272),
                     (208, 0),
                     (272, 176),
@@ -157,191 +211,217 @@ static CHANGES: [(&'static str, Done); 7] = [
                     (284, 1),
                     (288, HASH_OF_A),
                     (292, USED),
-                    (300, 0x4242_4242),
-                    (304, 0x4242_4242),
                     (308, 40),
                 ],
-                &[(296, *b"a4BB")],
-            ),
-        ),
+                contents: &[(296, *b"a4BB")],
+                padding: 8,
+            }),
+            ..RAISED
+        },
+    ),
+    (
+        "a record of more than 4096 bytes",
+        Done {
+            change: Change::Link(b"b", b"xyz", 8212),
+            len: 8508,
+            left: Some(Changed {
+                words: &[
+                    (172, 272),
+                    (272, 176),
+                    (276, 8212),
+                    (280, 1),
+                    (284, 3),
+                    (288, HASH_OF_B),
+                    (292, USED),
+                    (8504, 8236),
+                ],
+                contents: &[(296, *b"bxyz")],
+                padding: 8204,
+            }),
+            ..RAISED
+        },
+    ),
+    // What was written before a fault stands, and the rest is as it was: the value of an update, the record that was
+    // led past, and the new record to which no head leads yet.
+    (
+        "no sequence number",
+        Done {
+            failing: Some((Call::WriteWord, 0)),
+            given: Err(Io),
+            ..RAISED
+        },
+    ),
+    (
+        "no head past the first record",
+        Done {
+            change: Change::PurgeFirst,
+            failing: Some((Call::WriteWord, 0)),
+            given: Err(Io),
+            ..RAISED
+        },
+    ),
+    (
+        "no head is written",
+        Done {
+            change: Change::Unlink(b""),
+            failing: Some((Call::WriteWord, 0)),
+            given: Err(Io),
+            ..RAISED
+        },
+    ),
+    (
+        "no mark",
+        Done {
+            change: Change::MarkDead(b"a"),
+            failing: Some((Call::WriteWord, 0)),
+            given: Err(Io),
+            ..RAISED
+        },
+    ),
+    (
+        "the value of an update without its length",
+        Done {
+            change: Change::Update(b"a"),
+            failing: Some((Call::WriteWord, 0)),
+            given: Err(Io),
+            left: Some(Changed {
+                contents: &[(264, *b"a23B")],
+                ..NOTHING
+            }),
+            ..RAISED
+        },
+    ),
+    (
+        "no new record",
+        Done {
+            change: Change::Link(b"b", b"xyz", 16),
+            failing: Some((Call::Write, 0)),
+            given: Err(Io),
+            ..RAISED
+        },
+    ),
+    (
+        "a new record to which no head leads",
+        Done {
+            change: Change::Link(b"b", b"xyz", 16),
+            failing: Some((Call::WriteWord, 0)),
+            given: Err(Io),
+            left: Some(Changed {
+                words: &[
+                    (272, 176),
+                    (276, 16),
+                    (280, 1),
+                    (284, 3),
+                    (288, HASH_OF_B),
+                    (292, USED),
+                    (308, 40),
+                ],
+                contents: &[(296, *b"bxyz")],
+                padding: 8,
+            }),
+            ..RAISED
+        },
+    ),
+    (
+        "no word past the old record",
+        Done {
+            change: Change::Link(b"a", b"4", 16),
+            failing: Some((Call::WriteWord, 0)),
+            given: Err(Io),
+            ..RAISED
+        },
+    ),
+    (
+        "an old record that is led past",
+        Done {
+            change: Change::Link(b"a", b"4", 16),
+            failing: Some((Call::Write, 0)),
+            given: Err(Io),
+            left: Some(Changed {
+                words: &[(208, 0)],
+                ..NOTHING
+            }),
+            ..RAISED
+        },
+    ),
+    (
+        "the new record besides",
+        Done {
+            change: Change::Link(b"a", b"4", 16),
+            failing: Some((Call::WriteWord, 1)),
+            given: Err(Io),
+            left: Some(Changed {
+                words: &[
+                    (208, 0),
+                    (272, 176),
+                    (276, 16),
+                    (280, 1),
+                    (284, 1),
+                    (288, HASH_OF_A),
+                    (292, USED),
+                    (308, 40),
+                ],
+                contents: &[(296, *b"a4BB")],
+                padding: 8,
+            }),
+            ..RAISED
+        },
+    ),
+    // The six pieces in which a long record is written, of which two are blocks of padding.
+    ("the first piece of a long record", PIECE),
+    (
+        "the second piece of a long record",
+        Done {
+            failing: Some((Call::Write, 1)),
+            ..PIECE
+        },
+    ),
+    (
+        "the third piece of a long record",
+        Done {
+            failing: Some((Call::Write, 2)),
+            ..PIECE
+        },
+    ),
+    (
+        "the fourth piece of a long record",
+        Done {
+            failing: Some((Call::Write, 3)),
+            ..PIECE
+        },
+    ),
+    (
+        "the fifth piece of a long record",
+        Done {
+            failing: Some((Call::Write, 4)),
+            ..PIECE
+        },
+    ),
+    (
+        "the sixth piece of a long record",
+        Done {
+            failing: Some((Call::Write, 5)),
+            ..PIECE
+        },
     ),
 ];
 
-/// Whether a change gives this hand, and writes just these words and contents.
-fn change_holds(alloc: Global, order: Order, row: &Done) -> Result<bool, AllocError> {
-    let (change, hand, (words, contents)) = *row;
-    let mut disk = MemDisk::new(alloc, &image_with(alloc, order, &[], &[])?)?;
-    let mut s = Direct::new(&mut disk, &header(order));
-    let given = make(&mut s, change);
-    let want = image_with(alloc, order, words, contents)?;
-    Ok(given == Ok(hand) && disk.as_slice() == want.as_slice())
-}
-
-/// The first change of which that isn't so.
+/// The first change that gives another hand, or leaves something else.
 pub(crate) fn failing_change(
     alloc: Global,
     order: Order,
 ) -> Result<Option<&'static str>, AllocError> {
     for (name, row) in &CHANGES {
-        if !change_holds(alloc, order, row)? {
+        let file = image_of(alloc, row.len, order, &NOTHING)?;
+        let mut disk = disk_of(alloc, &file, row.failing)?;
+        let given = make(&mut disk, order, &row.change);
+        let is_left = match &row.left {
+            Some(left) => disk.as_slice() == image_of(alloc, row.len, order, left)?.as_slice(),
+            None => true,
+        };
+        if given != row.given || !is_left {
             return Ok(Some(*name));
         }
     }
     Ok(None)
-}
-
-/// A call that fails in a change, and what was written before.
-type Fault = (Change, Call, u64, Changed);
-
-// What was written before a fault stands, and the rest is as it was: the value of an update, the record that was led
-// past, and the new record to which no head leads yet.
-static FAULTS: [(&'static str, Fault); 10] = [
-    (
-        "no head is written",
-        (Change::UnlinkEmpty, Call::WriteWord, 0, (&[], &[])),
-    ),
-    (
-        "no head past the first record",
-        (Change::PurgeFirst, Call::WriteWord, 0, (&[], &[])),
-    ),
-    (
-        "no new record",
-        (Change::LinkNew, Call::Write, 0, (&[], &[])),
-    ),
-    (
-        "a new record to which no head leads",
-        (
-            Change::LinkNew,
-            Call::WriteWord,
-            0,
-            (
-                &[
-                    (272, 176),
-                    (276, 16),
-                    (280, 1),
-                    (284, 3),
-                    (288, HASH_OF_B),
-                    (292, USED),
-                    (300, 0x4242_4242),
-                    (304, 0x4242_4242),
-                    (308, 40),
-                ],
-                &[(296, *b"bxyz")],
-            ),
-        ),
-    ),
-    (
-        "no mark",
-        (Change::MarkDead, Call::WriteWord, 0, (&[], &[])),
-    ),
-    (
-        "the value of an update without its length",
-        (
-            Change::Update,
-            Call::WriteWord,
-            0,
-            (&[], &[(264, *b"a23B")]),
-        ),
-    ),
-    (
-        "no sequence number",
-        (Change::Raise, Call::WriteWord, 0, (&[], &[])),
-    ),
-    (
-        "no word past the old record",
-        (Change::Replace, Call::WriteWord, 0, (&[], &[])),
-    ),
-    (
-        "an old record that is led past",
-        (Change::Replace, Call::Write, 0, (&[(208, 0)], &[])),
-    ),
-    (
-        "the new record besides",
-        (
-            Change::Replace,
-            Call::WriteWord,
-            1,
-            (
-                &[
-                    (208, 0),
-                    (272, 176),
-                    (276, 16),
-                    (280, 1),
-                    (284, 1),
-                    (288, HASH_OF_A),
-                    (292, USED),
-                    (300, 0x4242_4242),
-                    (304, 0x4242_4242),
-                    (308, 40),
-                ],
-                &[(296, *b"a4BB")],
-            ),
-        ),
-    ),
-];
-
-/// Whether a fault in a change leaves that.
-fn fault_holds(alloc: Global, row: &Fault) -> Result<bool, AllocError> {
-    let (change, call, nth, (words, contents)) = *row;
-    let order = Order::Big;
-    let mut disk = MemDisk::new(alloc, &image_with(alloc, order, &[], &[])?)?;
-    disk.fail(call, nth)?;
-    let mut s = Direct::new(&mut disk, &header(order));
-    let given = make(&mut s, change);
-    let want = image_with(alloc, order, words, contents)?;
-    Ok(given == Err(Io) && disk.as_slice() == want.as_slice())
-}
-
-/// The first fault in a change that leaves something else.
-pub(crate) fn failing_fault(alloc: Global) -> Result<Option<&'static str>, AllocError> {
-    for (name, row) in &FAULTS {
-        if !fault_holds(alloc, row)? {
-            return Ok(Some(*name));
-        }
-    }
-    Ok(None)
-}
-
-/// Whether a record of more than 4096 bytes is written: its header, its key, its value, padding, and its end.
-fn long_holds(alloc: Global, order: Order) -> Result<bool, AllocError> {
-    let words = [
-        (172, 272),
-        (272, 176),
-        (276, 8212),
-        (280, 1),
-        (284, 3),
-        (288, HASH_OF_B),
-        (292, USED),
-        (8504, 8236),
-    ];
-    let mut want = image_of(alloc, 8508, order, &words, &[(296, *b"bxyz")])?;
-    if want.len() == 8508 {
-        want[300..8504].fill(0x42);
-    }
-    let mut disk = MemDisk::new(alloc, &image_of(alloc, 8508, order, &[], &[])?)?;
-    let mut s = Direct::new(&mut disk, &header(order));
-    let given = make(&mut s, Change::LinkLong);
-    Ok(given == Ok(None) && disk.as_slice() == want.as_slice())
-}
-
-/// Whether each of the six pieces in which that is written is told where it fails, of which two are blocks of padding.
-fn pieces_hold(alloc: Global) -> Result<bool, AllocError> {
-    for nth in 0..6 {
-        let mut disk = MemDisk::new(alloc, &image_of(alloc, 8508, Order::Big, &[], &[])?)?;
-        disk.fail(Call::Write, nth)?;
-        let mut s = Direct::new(&mut disk, &header(Order::Big));
-        if make(&mut s, Change::LinkLong) != Err(Io) {
-            return Ok(false);
-        }
-    }
-    Ok(true)
-}
-
-/// What is otherwise with a long record.
-pub(crate) fn failing_long_record(alloc: Global) -> Result<Option<&'static str>, AllocError> {
-    Ok(first_false(&[
-        ("in little order", long_holds(alloc, Order::Little)?),
-        ("in big order", long_holds(alloc, Order::Big)?),
-        ("a piece that fails", pieces_hold(alloc)?),
-    ]))
 }

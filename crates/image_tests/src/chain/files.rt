@@ -2,8 +2,10 @@
 
 ghost use Rattle.std.specs.Prelude.{◌≡◌};
 
+use crate::files::{put, put_words};
+use small_file::Word;
 use std::alloc::{AllocError, Global};
-use tdb_words::{DEAD, HashKind, Header, Order, USED, word_bytes};
+use tdb_words::{DEAD, HashKind, Header, Order, USED};
 
 // The stock library's hashes of the keys "a" and "b", and of the empty key.
 pub(crate) const HASH_OF_A: u32 = 0x094A_72E9;
@@ -12,8 +14,9 @@ pub(crate) const HASH_OF_B: u32 = 0x4B10_C154;
 
 const HASH_OF_EMPTY: u32 = 12345;
 
-// A chain of a dead record, that of the empty key and that of "a"; behind them 40 bytes that are in no list.
-const WORDS: [(usize, u32); 22] = [
+// A chain of a dead record of "a", the record of the empty key with the value "xy", and that of "a" with the value "1";
+// behind them 40 bytes that are in no list.
+const WORDS: [Word; 22] = [
     (172, 176),
     (176, 208),
     (180, 8),
@@ -38,41 +41,49 @@ const WORDS: [(usize, u32); 22] = [
     (268, 32),
 ];
 
-// What the three records hold.
-const CONTENTS: [(usize, [u8; 4]); 3] = [(200, *b"a0BB"), (232, *b"xyBB"), (264, *b"a1BB")];
+/// Four bytes of a file, and their offset.
+pub(crate) type Content = (usize, [u8; 4]);
 
-fn put(image: &mut [u8], at: usize, bytes: &[u8; 4]) {
-    if at <= image.len() && image.len() - at >= 4 {
-        image[at..at + 4].copy_from_slice(bytes);
+// What the three records hold.
+const CONTENTS: [Content; 3] = [(200, *b"a0BB"), (232, *b"xyBB"), (264, *b"a1BB")];
+
+/// Words and contents over those of the file, and how many bytes of padding stand from 300 on.
+pub(crate) struct Changed {
+    pub(crate) words: &'static [Word],
+    pub(crate) contents: &'static [Content],
+    pub(crate) padding: usize,
+}
+
+/// The file as it is.
+pub(crate) const NOTHING: Changed = Changed {
+    words: &[],
+    contents: &[],
+    padding: 0,
+};
+
+// Puts contents into a file.
+fn put_contents(bytes: &mut [u8], contents: &[Content]) {
+    for (at, content) in contents {
+        put(bytes, *at, content);
     }
 }
 
-// The file of these words and contents, with others over them, in so many bytes.
+// The file in so many bytes, and changed so.
 pub(crate) fn image_of(
     alloc: Global,
-    len: u16,
+    len: usize,
     order: Order,
-    words: &[(usize, u32)],
-    contents: &[(usize, [u8; 4])],
+    changed: &Changed,
 ) -> Result<Vec<u8>, AllocError> {
-    let mut image = vec![in alloc; 0u8; len as usize]?;
-    for (at, word) in WORDS.iter().chain(words) {
-        put(&mut image, *at, &word_bytes(*word, order));
-    }
-    for (at, bytes) in CONTENTS.iter().chain(contents) {
-        put(&mut image, *at, bytes);
+    let mut image = vec![in alloc; 0u8; len]?;
+    put_words(&mut image, order, &WORDS);
+    put_contents(&mut image, &CONTENTS);
+    put_words(&mut image, order, changed.words);
+    put_contents(&mut image, changed.contents);
+    for byte in image.iter_mut().skip(300).take(changed.padding) {
+        *byte = 0x42;
     }
     Ok(image)
-}
-
-// The same in 312 bytes.
-pub(crate) fn image_with(
-    alloc: Global,
-    order: Order,
-    words: &[(usize, u32)],
-    contents: &[(usize, [u8; 4])],
-) -> Result<Vec<u8>, AllocError> {
-    image_of(alloc, 312, order, words, contents)
 }
 
 pub(crate) fn header(order: Order) -> Header

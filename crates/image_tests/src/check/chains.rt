@@ -1,12 +1,12 @@
 // The walk along chains, over small files in memory.
 
-use crate::check::files::{Fault, HEADER, refusal};
+use crate::check::answers::{Part, part_says};
+use crate::check::files::{Fault, HEADER};
 use std::alloc::{AllocError, Global};
-use tdb_check::{Extent, follow_chains};
-use tdb_disk::MemDisk;
-use tdb_space::{Direct, Space};
 use tdb_words::What::{ChainLoop, ChainOut, TwiceKey, WrongHash};
-use tdb_words::{DEAD, Header, Order, Rec, USED, hash_jenkins, hash_old, rec_bytes, word_bytes};
+use tdb_words::{
+    DEAD, Header, Order, Rec, USED, hash_jenkins, hash_old, header_bytes, rec_bytes, word_bytes,
+};
 
 /// A record of a file: where it leads, its key, and what it is.
 pub(crate) type Link = (u32, [u8; 4], u32);
@@ -262,57 +262,24 @@ pub(crate) fn push_links(bytes: &mut Vec<u8>, links: &[Link]) -> Result<(), Allo
     Ok(())
 }
 
+/// The header of a file of so many chains.
+pub(crate) fn header_of(heads: &[u32]) -> Header {
+    Header {
+        hash_size: u32::try_from(heads.len()).unwrap_or(u32::MAX),
+        ..HEADER
+    }
+}
+
 /// A file with these chain heads, and these records behind them.
-fn file(alloc: Global, heads: &[u32], links: &[Link]) -> Result<Vec<u8>, AllocError> {
-    let mut bytes = vec![in alloc; 0u8; 172]?;
+pub(crate) fn file(alloc: Global, heads: &[u32], links: &[Link]) -> Result<Vec<u8>, AllocError> {
+    let h = header_of(heads);
+    let mut bytes = header_bytes(h.hash_size.max(1), h.order, h.hash).to_vec(alloc)?;
+    bytes.extend_from_slice(&word_bytes(0, Order::Little))?;
     for head in heads {
         bytes.extend_from_slice(&word_bytes(*head, Order::Little))?;
     }
     push_links(&mut bytes, links)?;
     Ok(bytes)
-}
-
-/// Whether extents begin at these offsets.
-fn are_at(extents: &[Extent], offsets: &[u32]) -> bool {
-    for (i, off) in offsets.iter().enumerate() {
-        if extents.get(i).map(|e| e.off) != Some(*off) {
-            return false;
-        }
-    }
-    extents.len() == offsets.len()
-}
-
-/// Whether the walk along the chains of a file says this, and puts down extents at these offsets, where they are
-/// looked at.
-pub(crate) fn says(
-    alloc: Global,
-    heads: &[u32],
-    links: &[Link],
-    want: Result<u64, Fault>,
-    offsets: Option<&[u32]>,
-) -> Result<bool, AllocError> {
-    let Ok(chains) = u32::try_from(heads.len()) else {
-        return Ok(false);
-    };
-    let mut disk = MemDisk::new(alloc, &file(alloc, heads, links)?)?;
-    let header = Header {
-        hash_size: chains,
-        ..HEADER
-    };
-    let mut s = Direct::new(&mut disk, &header);
-    let Ok(len) = s.len() else {
-        return Ok(false);
-    };
-    if chains == 0 || len < 168 + 4 * (u64::from(chains) + 1) {
-        return Ok(false);
-    }
-    let mut extents = Vec::new(alloc);
-    let followed = follow_chains(alloc, &mut s, len, &mut extents);
-    let is_there = match offsets {
-        Some(offsets) => are_at(&extents, offsets),
-        None => true,
-    };
-    Ok(followed == want.map_err(refusal) && is_there)
 }
 
 /// The first chains of which the walk doesn't say that.
@@ -321,7 +288,17 @@ pub(crate) fn failing_chains(alloc: Global) -> Result<Option<&'static str>, Allo
         return Ok(Some("two hashes"));
     }
     for (name, row) in &CHAINS {
-        if !says(alloc, row.heads, row.links, row.want, row.offsets)? {
+        let bytes = file(alloc, row.heads, row.links)?;
+        let header = header_of(row.heads);
+        if !part_says(
+            alloc,
+            &header,
+            &bytes,
+            None,
+            &Part::Chains,
+            row.want,
+            row.offsets,
+        )? {
             return Ok(Some(*name));
         }
     }

@@ -1,12 +1,15 @@
-// Small files in memory.
+// Small files in memory, and what a whole check of them says.
 
 ghost use Rattle.std.specs.Prelude.{IfOk};
 ghost use Rattle.std.specs.List.Sorted.{IsNonDecreasingBy};
 ghost use Rattle.tdb_check.specs.Extent.{off_of};
 
+use crate::files::{disk_of, put_words};
 use std::alloc::{AllocError, Global};
-use tdb_check::{CheckRefusal, Extent, sort_extents};
-use tdb_words::{HashKind, Header, Order, What, header_bytes, word_bytes};
+use tdb_check::{CheckRefusal, Extent, Report, check, sort_extents};
+use tdb_disk::Call;
+use tdb_space::Direct;
+use tdb_words::{HashKind, Header, Order, What, header_bytes};
 
 /// A word of a file: its offset, and the number there.
 pub(crate) type Word = (usize, u32);
@@ -21,15 +24,6 @@ pub(crate) const HEADER: Header = Header {
     recovery_start: 0,
     sequence: 0,
 };
-
-/// Writes words into a file, those that find place there.
-pub(crate) fn put_words(bytes: &mut [u8], order: Order, words: &[Word]) {
-    for (at, word) in words {
-        if *at <= bytes.len() && bytes.len() - *at >= 4 {
-            bytes[*at..*at + 4].copy_from_slice(&word_bytes(*word, order));
-        }
-    }
-}
 
 /// A file of this length with this header, and with words, of which the later ones overwrite the earlier ones.
 pub(crate) fn file_of(
@@ -65,4 +59,45 @@ pub(crate) fn extents_of(alloc: Global, places: &[(u32, u32)]) -> Result<Vec<Ext
     }
     sort_extents(&mut extents);
     Ok(extents)
+}
+
+/// What a check of a file says, of which the read with this number fails, if one is named.
+fn checked(
+    alloc: Global,
+    header: &Header,
+    bytes: &[u8],
+    failing: Option<(Call, u64)>,
+) -> Result<Result<Report, CheckRefusal>, AllocError> {
+    let mut disk = disk_of(alloc, bytes, failing)?;
+    Ok(check(alloc, &mut Direct::new(&mut disk, header)))
+}
+
+/// How many reads a check of a file makes, where each that fails ends it as a fault of the disk; and else 30, as where
+/// there are so many.
+fn reads_that_fail(alloc: Global, header: &Header, bytes: &[u8]) -> Result<u64, AllocError> {
+    for nth in 0..30 {
+        match checked(alloc, header, bytes, Some((Call::Read, nth)))? {
+            Ok(_) => return Ok(nth),
+            Err(CheckRefusal::Io) => {}
+            Err(_) => return Ok(30),
+        }
+    }
+    Ok(30)
+}
+
+/// Whether a check of a file says this, and makes so many reads, where they are counted.
+pub(crate) fn check_says(
+    alloc: Global,
+    header: &Header,
+    bytes: &[u8],
+    want: Result<Report, Fault>,
+    reads: Option<u64>,
+) -> Result<bool, AllocError> {
+    if checked(alloc, header, bytes, None)? != want.map_err(refusal) {
+        return Ok(false);
+    }
+    Ok(match reads {
+        Some(count) => reads_that_fail(alloc, header, bytes)? == count,
+        None => true,
+    })
 }

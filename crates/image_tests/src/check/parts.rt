@@ -1,78 +1,13 @@
 // The parts of the check over small files in memory.
 
-use crate::check::files::{Fault, HEADER, Word, extents_of, file_of, put_words, refusal};
+use crate::check::answers::{Part, part_says};
+use crate::check::files::{Fault, HEADER, Word, extents_of};
+use crate::files::file_of;
 use std::alloc::{AllocError, Global};
-use tdb_check::{
-    Extent, FrontRefusal, ListKind, can_stand, first_overlap, follow_free_list, read_area,
-    read_front, read_record,
-};
-use tdb_disk::{Call, MemDisk};
-use tdb_space::{Direct, Space};
-use tdb_words::What::{AreaBad, BadRecord, FreeLoop, FreeOut, Tailer, UndoBad, WrongHash};
-use tdb_words::{DEAD, FREE, GATE_OPEN, GATE_SHUT, Header, HeaderFault, Order, USED, hash_old};
-
-/// The length of a file, whether it has a header, whether its first read fails, and what its front is read as.
-type Front = (usize, bool, bool, Result<Header, FrontRefusal>);
-
-static FRONTS: [(&'static str, Front); 7] = [
-    ("a new file", (176, true, false, Ok(HEADER))),
-    (
-        "no bytes",
-        (0, true, false, Err(FrontRefusal::Short { len: 0 })),
-    ),
-    (
-        "a part of a header",
-        (167, true, false, Err(FrontRefusal::Short { len: 167 })),
-    ),
-    (
-        "no chain",
-        (172, true, false, Err(FrontRefusal::Short { len: 172 })),
-    ),
-    (
-        "a part of a head",
-        (174, true, false, Err(FrontRefusal::Short { len: 174 })),
-    ),
-    (
-        "zeros",
-        (
-            200,
-            false,
-            false,
-            Err(FrontRefusal::Header {
-                fault: HeaderFault::NotTdb,
-            }),
-        ),
-    ),
-    (
-        "a read that fails",
-        (176, true, true, Err(FrontRefusal::Io)),
-    ),
-];
-
-/// Whether the front of a file is read as that.
-fn front_holds(alloc: Global, row: &Front) -> Result<bool, AllocError> {
-    let (len, has_header, fails, want) = *row;
-    let bytes = if has_header {
-        file_of(alloc, &HEADER, len, &[], &[])?
-    } else {
-        vec![in alloc; 0u8; len]?
-    };
-    let mut disk = MemDisk::new(alloc, &bytes)?;
-    if fails {
-        disk.fail(Call::Read, 0)?;
-    }
-    Ok(read_front(&mut disk) == want)
-}
-
-/// The first front that isn't read so.
-pub(crate) fn failing_front(alloc: Global) -> Result<Option<&'static str>, AllocError> {
-    for (name, row) in &FRONTS {
-        if !front_holds(alloc, row)? {
-            return Ok(Some(*name));
-        }
-    }
-    Ok(None)
-}
+use tdb_check::{ListKind, first_overlap};
+use tdb_disk::Call;
+use tdb_words::What::{AreaBad, BadRecord, FreeLoop, FreeOut, Stray, Tailer, UndoBad, WrongHash};
+use tdb_words::{DEAD, FREE, GATE_OPEN, GATE_SHUT, Order, USED, hash_old};
 
 /// The offsets of extents with the lengths of their records, and where two of them overlap first.
 type Overlap = (&'static [(u32, u32)], Option<u32>);
@@ -100,58 +35,294 @@ pub(crate) fn failing_overlap(alloc: Global) -> Result<Option<&'static str>, All
     Ok(None)
 }
 
-/// A file of this length that has these words at their offsets, and else the byte of a key.
-fn file(alloc: Global, len: usize, words: &[Word]) -> Result<Vec<u8>, AllocError> {
-    let mut bytes = vec![in alloc; b'k'; len]?;
-    put_words(&mut bytes, Order::Little, words);
-    Ok(bytes)
+/// A file of this length with these words, and others over them, and else full of one byte; the call that fails, a part
+/// of the check, what that answers, and the offsets of the records that it finds, where they are looked at.
+struct Row {
+    len: usize,
+    fill: u8,
+    words: &'static [Word],
+    changed: &'static [Word],
+    failing: Option<(Call, u64)>,
+    part: Part,
+    want: Result<u64, Fault>,
+    offsets: Option<&'static [u32]>,
 }
 
-/// The word at 44, and the length and the gate word of an undo area, and what it is read as.
-type Area = (u32, u32, u32, Result<Option<Extent>, Fault>);
+/// An undo area at 176: the word at 44, and the length and the gate word of the area.
+const AREA: Row = Row {
+    len: 208,
+    fill: b'k',
+    words: &[(44, 176), (180, 8), (196, GATE_SHUT)],
+    changed: &[],
+    failing: None,
+    part: Part::Area,
+    want: Ok(0),
+    offsets: None,
+};
 
-const AREA: Option<Extent> = Some(Extent {
-    off: 176,
-    rec_len: 8,
-});
+/// A free list of two records.
+const FREE_LIST: Row = Row {
+    len: 240,
+    words: &[
+        (168, 176),
+        (176, 208),
+        (180, 8),
+        (196, FREE),
+        (204, 32),
+        (208, 0),
+        (212, 8),
+        (228, FREE),
+        (236, 32),
+    ],
+    part: Part::FreeList,
+    ..AREA
+};
 
-static AREAS: [(&'static str, Area); 9] = [
-    ("no area", (0, 8, GATE_SHUT, Ok(None))),
-    ("an area", (176, 8, GATE_SHUT, Ok(AREA))),
-    ("no whole word", (177, 8, GATE_SHUT, Err((AreaBad, 44)))),
+/// Gaps before, between and behind two extents.
+const GAPS: Row = Row {
+    len: 300,
+    fill: 0,
+    words: &[],
+    part: Part::Gaps(&[(240, 8), (180, 12)]),
+    want: Ok(56),
+    ..AREA
+};
+
+static ROWS: [(&'static str, Row); 26] = [
+    (
+        "no area",
+        Row {
+            changed: &[(44, 0)],
+            offsets: Some(&[]),
+            ..AREA
+        },
+    ),
+    (
+        "an area",
+        Row {
+            offsets: Some(&[176]),
+            ..AREA
+        },
+    ),
+    (
+        "no whole word",
+        Row {
+            changed: &[(44, 177)],
+            want: Err((AreaBad, 44)),
+            ..AREA
+        },
+    ),
     (
         "in front of the data",
-        (172, 8, GATE_SHUT, Err((AreaBad, 44))),
+        Row {
+            changed: &[(44, 172)],
+            want: Err((AreaBad, 44)),
+            ..AREA
+        },
     ),
-    ("too near the end", (188, 8, GATE_SHUT, Err((AreaBad, 44)))),
-    ("past the end", (176, 12, GATE_SHUT, Err((AreaBad, 180)))),
+    (
+        "too near the end",
+        Row {
+            changed: &[(44, 188)],
+            want: Err((AreaBad, 44)),
+            ..AREA
+        },
+    ),
+    (
+        "past the end",
+        Row {
+            changed: &[(180, 12)],
+            want: Err((AreaBad, 180)),
+            ..AREA
+        },
+    ),
     (
         "a length of no whole words",
-        (176, 6, GATE_SHUT, Err((AreaBad, 180))),
+        Row {
+            changed: &[(180, 6)],
+            want: Err((AreaBad, 180)),
+            ..AREA
+        },
     ),
     (
         "the magic of a free record",
-        (176, 8, FREE, Err((AreaBad, 196))),
+        Row {
+            changed: &[(196, FREE)],
+            want: Err((AreaBad, 196)),
+            ..AREA
+        },
     ),
-    ("an open gate", (176, 8, GATE_OPEN, Err((UndoBad, 196)))),
+    (
+        "an open gate",
+        Row {
+            changed: &[(196, GATE_OPEN)],
+            want: Err((UndoBad, 196)),
+            ..AREA
+        },
+    ),
+    (
+        "two records",
+        Row {
+            offsets: Some(&[176, 208]),
+            ..FREE_LIST
+        },
+    ),
+    (
+        "back to the first",
+        Row {
+            changed: &[(208, 176)],
+            want: Err((FreeLoop, 208)),
+            ..FREE_LIST
+        },
+    ),
+    (
+        "to itself",
+        Row {
+            changed: &[(208, 208)],
+            want: Err((FreeLoop, 208)),
+            ..FREE_LIST
+        },
+    ),
+    (
+        "to a place in front of the data",
+        Row {
+            changed: &[(208, 172)],
+            want: Err((FreeOut, 208)),
+            ..FREE_LIST
+        },
+    ),
+    (
+        "a used record",
+        Row {
+            changed: &[(228, USED)],
+            want: Err((BadRecord, 208)),
+            ..FREE_LIST
+        },
+    ),
+    (
+        "no gap",
+        Row {
+            len: 176,
+            part: Part::Gaps(&[]),
+            want: Ok(0),
+            ..GAPS
+        },
+    ),
+    (
+        "padding at the ends of gaps",
+        Row {
+            changed: &[(176, 0x4200_0000), (228, 0x4200_0000)],
+            ..GAPS
+        },
+    ),
+    (
+        "other bytes in extents",
+        Row {
+            changed: &[(180, 7), (268, 0x0700_0000)],
+            ..GAPS
+        },
+    ),
+    (
+        "the last byte",
+        Row {
+            changed: &[(296, 0x4100_0000), (232, 0x42)],
+            want: Err((Stray, 299)),
+            ..GAPS
+        },
+    ),
+    (
+        "the last byte, and one in front of both",
+        Row {
+            changed: &[(296, 0x0100_0000), (176, 0x0100_0000)],
+            want: Err((Stray, 179)),
+            ..GAPS
+        },
+    ),
+    (
+        "the first byte",
+        Row {
+            changed: &[(176, 0x0100_0043)],
+            want: Err((Stray, 176)),
+            ..GAPS
+        },
+    ),
+    (
+        "a byte between both",
+        Row {
+            changed: &[(236, 0x0100_0000), (240, 1)],
+            want: Err((Stray, 239)),
+            ..GAPS
+        },
+    ),
+    (
+        "the last byte of a long gap",
+        Row {
+            len: 10_000,
+            changed: &[(9_996, 0x0900_0000)],
+            want: Err((Stray, 9_999)),
+            ..GAPS
+        },
+    ),
+    (
+        "a byte in a long gap",
+        Row {
+            len: 10_000,
+            changed: &[(9_996, 0x4200_0000), (4_300, 9)],
+            want: Err((Stray, 4_300)),
+            ..GAPS
+        },
+    ),
+    (
+        "a long gap",
+        Row {
+            len: 10_000,
+            changed: &[(9_996, 0x4200_0000)],
+            want: Ok(9_756),
+            ..GAPS
+        },
+    ),
+    (
+        "one read of a gap that is no longer than a block",
+        Row {
+            len: 4_300,
+            failing: Some((Call::Read, 1)),
+            part: Part::Gaps(&[(176, 8)]),
+            want: Ok(4_092),
+            ..GAPS
+        },
+    ),
+    (
+        "no read where an extent is all",
+        Row {
+            len: 4_300,
+            failing: Some((Call::Read, 0)),
+            part: Part::Gaps(&[(176, 4_100)]),
+            want: Ok(0),
+            ..GAPS
+        },
+    ),
 ];
 
-/// Whether an undo area is read as that.
-fn area_holds(alloc: Global, row: &Area) -> Result<bool, AllocError> {
-    let (at, rec_len, gate, want) = *row;
-    let bytes = file(alloc, 208, &[(44, at), (180, rec_len), (196, gate)])?;
-    let mut disk = MemDisk::new(alloc, &bytes)?;
-    let mut s = Direct::new(&mut disk, &HEADER);
-    let Ok(len) = s.len() else {
-        return Ok(false);
-    };
-    Ok(len == 208 && read_area(&mut s, len) == want.map_err(refusal))
-}
-
-/// The first undo area that isn't read so.
-pub(crate) fn failing_area(alloc: Global) -> Result<Option<&'static str>, AllocError> {
-    for (name, row) in &AREAS {
-        if !area_holds(alloc, row)? {
+/// The first part of the check that doesn't say that.
+pub(crate) fn failing_part(alloc: Global) -> Result<Option<&'static str>, AllocError> {
+    for (name, row) in &ROWS {
+        let bytes = file_of(
+            alloc,
+            row.len,
+            row.fill,
+            Order::Little,
+            row.words,
+            row.changed,
+        )?;
+        if !part_says(
+            alloc,
+            &HEADER,
+            &bytes,
+            row.failing,
+            &row.part,
+            row.want,
+            row.offsets,
+        )? {
             return Ok(Some(*name));
         }
     }
@@ -161,24 +332,26 @@ pub(crate) fn failing_area(alloc: Global) -> Result<Option<&'static str>, AllocE
 /// A record of no value at 176: its magic, by how much it is longer than its key, what is changed of the key's hash,
 /// and by how much the word behind it is more than the key's length. The list in which it stands, and the next of that,
 /// or its fault there.
-type Record = (u32, u16, u32, u16, ListKind, Result<u32, Fault>);
+type Record = (u32, u16, u32, u16, Part, Result<u64, Fault>);
 
-const IN_CHAIN: ListKind = ListKind::Chain(0);
+const IN_CHAIN: Part = Part::Record(ListKind::Chain(0));
 
-const BAD_RECORD: Result<u32, Fault> = Err((BadRecord, 176));
+const IN_FREE_LIST: Part = Part::Record(ListKind::Free);
 
-const WRONG_HASH: Result<u32, Fault> = Err((WrongHash, 176));
+const BAD_RECORD: Result<u64, Fault> = Err((BadRecord, 176));
+
+const WRONG_HASH: Result<u64, Fault> = Err((WrongHash, 176));
 
 static RECORDS: [(&'static str, Record); 9] = [
     ("used", (USED, 4, 0, 28, IN_CHAIN, Ok(0))),
     (
         "used in the free list",
-        (USED, 4, 0, 28, ListKind::Free, BAD_RECORD),
+        (USED, 4, 0, 28, IN_FREE_LIST, BAD_RECORD),
     ),
     ("dead, with another hash", (DEAD, 4, 1, 28, IN_CHAIN, Ok(0))),
     (
         "free, with another hash",
-        (FREE, 4, 1, 28, ListKind::Free, Ok(0)),
+        (FREE, 4, 1, 28, IN_FREE_LIST, Ok(0)),
     ),
     ("past the end", (USED, 8, 0, 28, IN_CHAIN, BAD_RECORD)),
     (
@@ -192,107 +365,36 @@ static RECORDS: [(&'static str, Record); 9] = [
     ("another hash", (USED, 4, 1, 28, IN_CHAIN, WRONG_HASH)),
     (
         "another chain",
-        (USED, 4, 0, 28, ListKind::Chain(1), WRONG_HASH),
+        (USED, 4, 0, 28, Part::Record(ListKind::Chain(1)), WRONG_HASH),
     ),
 ];
 
 /// The file of a record that has a key of this length.
 fn file_of_record(alloc: Global, row: &Record, key_len: u16) -> Result<Vec<u8>, AllocError> {
-    let (magic, longer, changed, behind, _, _) = *row;
+    let (magic, longer, changed, behind, _, _) = row;
     let key = vec![in alloc; b'k'; key_len as usize]?;
     let len = u32::from(key_len);
     let end = 200 + key_len as usize;
     let words = [
         (176, 0),
-        (180, len + u32::from(longer)),
+        (180, len + u32::from(*longer)),
         (184, len),
         (188, 0),
-        (192, hash_old(&key) ^ changed),
-        (196, magic),
-        (end, len + u32::from(behind)),
+        (192, hash_old(&key) ^ *changed),
+        (196, *magic),
+        (end, len + u32::from(*behind)),
     ];
-    file(alloc, end + 4, &words)
+    file_of(alloc, end + 4, b'k', Order::Little, &words, &[])
 }
 
-/// Whether a record that has a key of this length is read as that.
-fn record_holds(alloc: Global, row: &Record, key_len: u16) -> Result<bool, AllocError> {
-    let mut disk = MemDisk::new(alloc, &file_of_record(alloc, row, key_len)?)?;
-    let mut s = Direct::new(&mut disk, &HEADER);
-    let Ok(len) = s.len() else {
-        return Ok(false);
-    };
-    if len < 200 || !can_stand(176, len, 1) {
-        return Ok(false);
-    }
-    let next = read_record(&mut s, len, row.4, 176).map(|found| found.header.next);
-    Ok(next == row.5.map_err(refusal))
-}
-
-/// The first record that isn't read so, with a short key and with a long one.
-pub(crate) fn failing_record(alloc: Global) -> Result<Option<&'static str>, AllocError> {
+/// The first record that isn't read so with a key of this length.
+pub(crate) fn failing_record(
+    alloc: Global,
+    key_len: u16,
+) -> Result<Option<&'static str>, AllocError> {
     for (name, row) in &RECORDS {
-        if !record_holds(alloc, row, 4)? || !record_holds(alloc, row, 600)? {
-            return Ok(Some(*name));
-        }
-    }
-    Ok(None)
-}
-
-/// What the second record of a free list leads to, and its magic; and what the walk along the list says.
-type FreeList = (u32, u32, Result<(), Fault>);
-
-static FREE_LISTS: [(&'static str, FreeList); 5] = [
-    ("two records", (0, FREE, Ok(()))),
-    ("back to the first", (176, FREE, Err((FreeLoop, 208)))),
-    ("to itself", (208, FREE, Err((FreeLoop, 208)))),
-    ("in front of the data", (172, FREE, Err((FreeOut, 208)))),
-    ("a used record", (0, USED, Err((BadRecord, 208)))),
-];
-
-/// The extents of both records.
-const BOTH: [Extent; 2] = [
-    Extent {
-        off: 176,
-        rec_len: 8,
-    },
-    Extent {
-        off: 208,
-        rec_len: 8,
-    },
-];
-
-/// Whether the walk along a free list says that, and puts down both records where it says that they are there.
-fn free_list_holds(alloc: Global, row: &FreeList) -> Result<bool, AllocError> {
-    let (next, magic, want) = *row;
-    let words = [
-        (168, 176),
-        (176, 208),
-        (180, 8),
-        (196, FREE),
-        (204, 32),
-        (208, next),
-        (212, 8),
-        (228, magic),
-        (236, 32),
-    ];
-    let mut disk = MemDisk::new(alloc, &file(alloc, 240, &words)?)?;
-    let mut s = Direct::new(&mut disk, &HEADER);
-    let Ok(len) = s.len() else {
-        return Ok(false);
-    };
-    if len != 240 {
-        return Ok(false);
-    }
-    let mut extents = Vec::new(alloc);
-    let followed = follow_free_list(alloc, &mut s, len, &mut extents);
-    let is_there = want.is_err() || extents.as_slice() == BOTH.as_slice();
-    Ok(followed == want.map_err(refusal) && is_there)
-}
-
-/// The first free list of which the walk doesn't say that.
-pub(crate) fn failing_free_list(alloc: Global) -> Result<Option<&'static str>, AllocError> {
-    for (name, row) in &FREE_LISTS {
-        if !free_list_holds(alloc, row)? {
+        let bytes = file_of_record(alloc, row, key_len)?;
+        if !part_says(alloc, &HEADER, &bytes, None, &row.4, row.5, None)? {
             return Ok(Some(*name));
         }
     }

@@ -1,20 +1,22 @@
 // The check of whole files in memory: what it counts, and its first fault.
 
-use crate::check::files::{Fault, HEADER, Word, file_of, refusal};
+use crate::check::files::{Fault, HEADER, Word, check_says, file_of};
 use std::alloc::{AllocError, Global};
-use tdb_check::{CheckRefusal, Report, check};
-use tdb_disk::{Call, MemDisk};
-use tdb_space::Direct;
-use tdb_words::What::{AreaBad, ChainOut, FreeOut, Overlap, Stray, UndoBad};
+use tdb_check::Report;
+use tdb_words::What::{
+    AreaBad, ChainOut, FreeOut, Header as BadHeader, Overlap, Short, Stray, UndoBad,
+};
 use tdb_words::{DEAD, FREE, GATE_OPEN, GATE_SHUT, HashKind, Header, Order, USED};
 
-/// A file of this header and this length, with these words, and others over them: and what a check of it says.
+/// A file of this header and this length, with these words, and others over them: what a check of it says, and how many
+/// reads it makes, where they are counted.
 struct Checked {
     header: Header,
     len: usize,
     words: &'static [Word],
     changed: &'static [Word],
     want: Result<Report, Fault>,
+    reads: Option<u64>,
 }
 
 /// One chain of a used record at 176 and a dead one at 208, a free record at 240, and an undo area at 280 behind 8
@@ -50,16 +52,18 @@ pub(crate) const NOTHING: Report = Report {
     area: 0,
 };
 
-/// A new file.
+/// A new file. The front, the area's word, and the heads of the free list and of the chain are read.
 const NEW: Checked = Checked {
     header: HEADER,
     len: 176,
     words: &[],
     changed: &[],
     want: Ok(NOTHING),
+    reads: Some(4),
 };
 
-/// The file with a record of each kind.
+/// The file with a record of each kind. The front, the area's word and header, the chain's head and two records, the
+/// free list's head and record, and two gaps are read.
 const FULL: Checked = Checked {
     len: 320,
     words: &WORDS,
@@ -70,11 +74,13 @@ const FULL: Checked = Checked {
         dead_bytes: 16,
         area: 32,
     }),
+    reads: Some(10),
     ..NEW
 };
 
 // Of several faults the first is told.
-static CHECKED: [(&'static str, Checked); 10] = [
+static CHECKED: [(&'static str, Checked); 16] = [
+    ("a new file of one chain", NEW),
     (
         "a new file of 131 chains",
         Checked {
@@ -86,6 +92,7 @@ static CHECKED: [(&'static str, Checked); 10] = [
                 sequence: 0,
             },
             len: 696,
+            reads: None,
             ..NEW
         },
     ),
@@ -95,6 +102,7 @@ static CHECKED: [(&'static str, Checked); 10] = [
         Checked {
             changed: &[(312, 7), (316, 7), (272, 0x42)],
             want: Err((Stray, 312)),
+            reads: None,
             ..FULL
         },
     ),
@@ -103,6 +111,7 @@ static CHECKED: [(&'static str, Checked); 10] = [
         Checked {
             changed: &[(172, 0), (312, 7), (272, 0x42)],
             want: Err((Stray, 176)),
+            reads: None,
             ..FULL
         },
     ),
@@ -111,6 +120,7 @@ static CHECKED: [(&'static str, Checked); 10] = [
         Checked {
             changed: &[(244, 28), (288, 52), (312, 7)],
             want: Err((Overlap, 280)),
+            reads: None,
             ..FULL
         },
     ),
@@ -119,6 +129,7 @@ static CHECKED: [(&'static str, Checked); 10] = [
         Checked {
             changed: &[(168, 172), (288, 52), (312, 7)],
             want: Err((FreeOut, 168)),
+            reads: None,
             ..FULL
         },
     ),
@@ -127,6 +138,7 @@ static CHECKED: [(&'static str, Checked); 10] = [
         Checked {
             changed: &[(172, 100), (168, 172), (312, 7)],
             want: Err((ChainOut, 172)),
+            reads: None,
             ..FULL
         },
     ),
@@ -135,6 +147,7 @@ static CHECKED: [(&'static str, Checked); 10] = [
         Checked {
             changed: &[(300, FREE), (172, 100), (168, 172)],
             want: Err((AreaBad, 300)),
+            reads: None,
             ..FULL
         },
     ),
@@ -144,6 +157,7 @@ static CHECKED: [(&'static str, Checked); 10] = [
             len: 208,
             changed: &[(180, 8), (44, 172), (196, GATE_OPEN)],
             want: Err((AreaBad, 44)),
+            reads: None,
             ..NEW
         },
     ),
@@ -153,61 +167,63 @@ static CHECKED: [(&'static str, Checked); 10] = [
             len: 208,
             changed: &[(180, 8), (44, 176), (196, GATE_OPEN)],
             want: Err((UndoBad, 196)),
+            reads: None,
+            ..NEW
+        },
+    ),
+    (
+        "no bytes",
+        Checked {
+            len: 0,
+            want: Err((Short, 0)),
+            reads: None,
+            ..NEW
+        },
+    ),
+    (
+        "a part of a header",
+        Checked {
+            len: 167,
+            want: Err((Short, 167)),
+            reads: None,
+            ..NEW
+        },
+    ),
+    (
+        "another header",
+        Checked {
+            len: 168,
+            changed: &[(0, 0x2042_4458)],
+            want: Err((BadHeader, 0)),
+            reads: None,
+            ..NEW
+        },
+    ),
+    (
+        "no chain",
+        Checked {
+            len: 172,
+            want: Err((Short, 172)),
+            reads: None,
+            ..NEW
+        },
+    ),
+    (
+        "half a word behind the heads",
+        Checked {
+            len: 178,
+            want: Err((Short, 178)),
+            reads: None,
             ..NEW
         },
     ),
 ];
 
-/// The bytes of a file.
-fn bytes_of(alloc: Global, row: &Checked) -> Result<Vec<u8>, AllocError> {
-    file_of(alloc, &row.header, row.len, row.words, row.changed)
-}
-
 /// The first file of which a check doesn't say that.
 pub(crate) fn failing_check(alloc: Global) -> Result<Option<&'static str>, AllocError> {
     for (name, row) in &CHECKED {
-        let mut disk = MemDisk::new(alloc, &bytes_of(alloc, row)?)?;
-        let checked = check(alloc, &mut Direct::new(&mut disk, &row.header));
-        if checked != row.want.map_err(refusal) {
-            return Ok(Some(*name));
-        }
-    }
-    Ok(None)
-}
-
-/// How many reads a check of a file makes, where each that fails ends it as a fault of the disk; and else 30, as where
-/// there are so many.
-pub(crate) fn reads_that_fail(
-    alloc: Global,
-    header: &Header,
-    bytes: &[u8],
-) -> Result<u32, AllocError> {
-    for nth in 0..30 {
-        let mut disk = MemDisk::new(alloc, bytes)?;
-        disk.fail(Call::Read, u64::from(nth))?;
-        match check(alloc, &mut Direct::new(&mut disk, header)) {
-            Ok(_) => return Ok(nth),
-            Err(CheckRefusal::Io) => {}
-            Err(_) => return Ok(30),
-        }
-    }
-    Ok(30)
-}
-
-// Files, and how many reads a check of them makes. Of a new file: the front, the area's word, and the heads of the free
-// list and of the chain. Of the other: the front, the area's word and header, the chain's head and two records, the
-// free list's head and record, and two gaps.
-static READ: [(&'static str, Checked, u32); 2] = [
-    ("reads of a new file", NEW, 4),
-    ("reads of a record of each kind", FULL, 10),
-];
-
-/// The first file of which a check makes another number of reads, or doesn't end as a fault of the disk where one of
-/// them fails.
-pub(crate) fn failing_reads(alloc: Global) -> Result<Option<&'static str>, AllocError> {
-    for (name, row, wanted) in &READ {
-        let count = reads_that_fail(alloc, &row.header, &bytes_of(alloc, row)?)?;
-        if count != *wanted {
+        let bytes = file_of(alloc, &row.header, row.len, row.words, row.changed)?;
+        if !check_says(alloc, &row.header, &bytes, row.want, row.reads)? {
             return Ok(Some(*name));
         }
     }

@@ -1,16 +1,15 @@
 // The check of files whose records stand one after the other: those that are read once from the front, and those whose
 // lists are walked along besides.
 
-use crate::check::chains::{Link, push_links};
-use crate::check::files::{Fault, HEADER, Word, put_words, refusal};
-use crate::check::long_chains::like_links;
-use crate::check::reports::{NOTHING, reads_that_fail};
+use crate::check::chains::{Link, file, header_of, push_links};
+use crate::check::files::{Fault, Word, check_says};
+use crate::check::long_chains::{LIKE_KEYS, links_of};
+use crate::check::reports::NOTHING;
+use crate::files::put_words;
 use std::alloc::{AllocError, Global};
-use tdb_check::{Report, check};
-use tdb_disk::MemDisk;
-use tdb_space::Direct;
+use tdb_check::Report;
 use tdb_words::What::{BadRecord, Stray, Tailer, TwiceKey, WrongHash};
-use tdb_words::{DEAD, FREE, Header, Order, Rec, USED, header_bytes, rec_bytes, word_bytes};
+use tdb_words::{DEAD, FREE, Order, Rec, USED, rec_bytes};
 
 /// The heads of a file's chains, the records of 32 bytes behind them, and words that are changed then. What a check
 /// says, and how many reads it makes where it accepts the file: five where it reads the file once from its front, which
@@ -20,7 +19,7 @@ struct Sequence {
     links: &'static [Link],
     changed: &'static [Word],
     want: Result<Report, Fault>,
-    reads: u32,
+    reads: Option<u64>,
 }
 
 const THREE: Report = Report { live: 3, ..NOTHING };
@@ -35,7 +34,7 @@ const FORWARD: Sequence = Sequence {
     ],
     changed: &[],
     want: Ok(THREE),
-    reads: 5,
+    reads: Some(5),
 };
 
 // A walk reads the header, the undo area's word and the front of the file too, and then the chains' heads, each record,
@@ -74,7 +73,7 @@ static SEQUENCES: [(&'static str, Sequence); 12] = [
                 (240, *b"cccc", USED),
                 (0, *b"zapu", USED),
             ],
-            reads: 7,
+            reads: Some(7),
             ..FORWARD
         },
     ),
@@ -103,7 +102,7 @@ static SEQUENCES: [(&'static str, Sequence); 12] = [
                 (0, *b"cccc", USED),
                 (208, *b"bbbb", USED),
             ],
-            reads: 8,
+            reads: Some(8),
             ..FORWARD
         },
     ),
@@ -120,7 +119,7 @@ static SEQUENCES: [(&'static str, Sequence); 12] = [
                 dead_records: 1,
                 ..NOTHING
             }),
-            reads: 8,
+            reads: Some(8),
             ..FORWARD
         },
     ),
@@ -133,6 +132,7 @@ static SEQUENCES: [(&'static str, Sequence); 12] = [
                 (0, *b"apah", USED),
             ],
             want: Err((TwiceKey, 240)),
+            reads: None,
             ..FORWARD
         },
     ),
@@ -141,6 +141,7 @@ static SEQUENCES: [(&'static str, Sequence); 12] = [
         Sequence {
             changed: &[(236, 28)],
             want: Err((Tailer, 208)),
+            reads: None,
             ..FORWARD
         },
     ),
@@ -149,6 +150,7 @@ static SEQUENCES: [(&'static str, Sequence); 12] = [
         Sequence {
             changed: &[(208, 0)],
             want: Err((Stray, 244)),
+            reads: None,
             ..FORWARD
         },
     ),
@@ -157,6 +159,7 @@ static SEQUENCES: [(&'static str, Sequence); 12] = [
         Sequence {
             changed: &[(168, 240)],
             want: Err((BadRecord, 240)),
+            reads: None,
             ..FORWARD
         },
     ),
@@ -166,54 +169,18 @@ static SEQUENCES: [(&'static str, Sequence); 12] = [
             heads: &[0, 180],
             links: &[(0, *b"apah", USED)],
             want: Err((WrongHash, 180)),
+            reads: None,
             ..FORWARD
         },
     ),
 ];
-
-/// The header of a file of so many chains.
-fn header_of(heads: &[u32]) -> Header {
-    Header {
-        hash_size: u32::try_from(heads.len()).unwrap_or(u32::MAX),
-        ..HEADER
-    }
-}
-
-/// A file with these chain heads and these records.
-fn file(alloc: Global, heads: &[u32], links: &[Link]) -> Result<Vec<u8>, AllocError> {
-    let h = header_of(heads);
-    let mut bytes = header_bytes(h.hash_size.max(1), h.order, h.hash).to_vec(alloc)?;
-    bytes.extend_from_slice(&word_bytes(0, Order::Little))?;
-    for head in heads {
-        bytes.extend_from_slice(&word_bytes(*head, Order::Little))?;
-    }
-    push_links(&mut bytes, links)?;
-    Ok(bytes)
-}
-
-/// Whether a check of a file says this, and makes so many reads where it accepts it.
-fn says(
-    alloc: Global,
-    heads: &[u32],
-    bytes: &[u8],
-    want: Result<Report, Fault>,
-    reads: u32,
-) -> Result<bool, AllocError> {
-    let header = header_of(heads);
-    let mut disk = MemDisk::new(alloc, bytes)?;
-    let checked = check(alloc, &mut Direct::new(&mut disk, &header));
-    if checked != want.map_err(refusal) {
-        return Ok(false);
-    }
-    Ok(want.is_err() || reads_that_fail(alloc, &header, bytes)? == reads)
-}
 
 /// The first file of which a check doesn't say that.
 pub(crate) fn failing_sequence(alloc: Global) -> Result<Option<&'static str>, AllocError> {
     for (name, row) in &SEQUENCES {
         let mut bytes = file(alloc, row.heads, row.links)?;
         put_words(&mut bytes, Order::Little, row.changed);
-        if !says(alloc, row.heads, &bytes, row.want, row.reads)? {
+        if !check_says(alloc, &header_of(row.heads), &bytes, row.want, row.reads)? {
             return Ok(Some(*name));
         }
     }
@@ -243,7 +210,7 @@ fn push_free(bytes: &mut Vec<u8>, rec_len: u32) -> Result<(), AllocError> {
 
 /// A used record, a free one, and a used one that leads to the first; how long the free one is behind its header, and
 /// how many reads a check makes: two of the records where their front and the free one's tailer aren't within 128 KiB.
-static LONG_RECORDS: [(&'static str, u32, u32); 2] = [
+static LONG_RECORDS: [(&'static str, u32, u64); 2] = [
     ("a free record of 100,000 bytes", 100_000, 5),
     ("a free record of 200,000 bytes", 200_000, 6),
 ];
@@ -261,7 +228,7 @@ pub(crate) fn failing_long_record(alloc: Global) -> Result<Option<&'static str>,
             free_records: 1,
             ..NOTHING
         });
-        if !says(alloc, &heads, &bytes, want, *reads)? {
+        if !check_says(alloc, &header_of(&heads), &bytes, want, Some(*reads))? {
             return Ok(Some(*name));
         }
     }
@@ -269,24 +236,20 @@ pub(crate) fn failing_long_record(alloc: Global) -> Result<Option<&'static str>,
 }
 
 /// How many keys of one Jenkins hash a chain has. Where more than eight have one, the chain is walked along besides.
-static LIKE_KEYS: [(&'static str, usize, u64); 2] = [
-    ("eight keys of one Jenkins hash", 8, 8),
-    ("nine keys of one Jenkins hash", 9, 9),
+static LIKE: [(&'static str, usize, u64); 2] = [
+    ("eight keys of one Jenkins hash", 7, 8),
+    ("nine keys of one Jenkins hash", 8, 9),
 ];
 
 /// The first file with keys of one Jenkins hash that a check doesn't accept.
 pub(crate) fn failing_like_keys(alloc: Global) -> Result<Option<&'static str>, AllocError> {
-    for (name, count, live) in &LIKE_KEYS {
-        let links = like_links(alloc, count.saturating_sub(1), count.saturating_sub(1))?;
-        let bytes = file(alloc, &[176], &links)?;
-        let mut disk = MemDisk::new(alloc, &bytes)?;
-        let checked = check(alloc, &mut Direct::new(&mut disk, &HEADER));
-        if checked
-            != Ok(Report {
-                live: *live,
-                ..NOTHING
-            })
-        {
+    for (name, last, live) in &LIKE {
+        let bytes = file(alloc, &[176], &links_of(alloc, &LIKE_KEYS, *last, *last)?)?;
+        let want = Ok(Report {
+            live: *live,
+            ..NOTHING
+        });
+        if !check_says(alloc, &header_of(&[176]), &bytes, want, None)? {
             return Ok(Some(*name));
         }
     }

@@ -1,19 +1,11 @@
 // Gives to the free list of a small file in memory.
 
-use crate::free::files::{Word, file_of, put_words};
+use crate::files::{file_of, put_words};
+use crate::free::files::{File, Step, answer};
+use small_file::{HEADER, Word};
 use std::alloc::{AllocError, Global};
-use tdb_disk::{Call, MemDisk};
-use tdb_free::{FreeRefusal, give};
-use tdb_space::{Direct, Hand};
-use tdb_words::{FREE, HashKind, Header, Order, USED};
-
-const HEADER: Header = Header {
-    order: Order::Little,
-    hash: HashKind::Old,
-    hash_size: 1,
-    recovery_start: 0,
-    sequence: 0,
-};
+use tdb_disk::MemDisk;
+use tdb_words::{FREE, Header, Order, USED};
 
 /// A free list of three records: the one at 240, the one at 304, and the one at 176. Between 208 and 240 a record was
 /// taken out, and one of a chain stands from 272 to 304.
@@ -33,10 +25,17 @@ const WORDS: [Word; 13] = [
     (336, 36),
 ];
 
-/// The bytes of the file, with other words at some places.
-fn file_with(alloc: Global, words: &[Word]) -> Result<Vec<u8>, AllocError> {
-    file_of(alloc, 340, 0x42, Order::Little, &WORDS, words)
-}
+/// The file with this list.
+pub(crate) const LIST: File = File {
+    header: Header {
+        hash_size: 1,
+        ..HEADER
+    },
+    len: 340,
+    fill: 0x42,
+    words: &WORDS,
+    later: &[],
+};
 
 /// The header of a free record that was written, and its tailer.
 fn written(off: u32, next: u32, rec_len: u16) -> [Word; 8] {
@@ -175,80 +174,23 @@ static GIVES: [(&'static str, Give); 12] = [
     ),
 ];
 
-/// What a give of a hand answers, if that is one.
-fn given(disk: &mut MemDisk, off: u32, rec_len: u32) -> Option<Result<(), FreeRefusal>> {
-    if off % 4 != 0 || rec_len % 4 != 0 || rec_len < 4 {
-        return None;
-    }
-    let hand = Hand::new(off, rec_len);
-    Some(give(&mut Direct::new(disk, &HEADER), hand))
-}
-
-/// The file that a give has to leave.
-fn file_after(alloc: Global, row: &Give) -> Result<Vec<u8>, AllocError> {
-    let mut image = file_with(alloc, row.words)?;
-    if let Some(link) = row.link {
-        put_words(&mut image, Order::Little, &[link]);
-    }
-    if let Some((off, next, rec_len)) = row.record {
-        put_words(&mut image, Order::Little, &written(off, next, rec_len));
-    }
-    Ok(image)
-}
-
-/// Whether a give goes so.
-fn give_holds(alloc: Global, row: &Give) -> Result<bool, AllocError> {
-    let mut disk = MemDisk::new(alloc, &file_with(alloc, row.words)?)?;
-    let (off, rec_len) = row.hand;
-    let answer = given(&mut disk, off, rec_len);
-    Ok(
-        answer == Some(Ok(()))
-            && disk.as_slice() == file_after(alloc, row)?.as_slice()
-            && row.read.is_none_or(|read| read == disk.bytes_read()),
-    )
-}
-
 /// The first give that doesn't go so.
 pub(crate) fn failing_give(alloc: Global) -> Result<Option<&'static str>, AllocError> {
     for (name, row) in &GIVES {
-        if !give_holds(alloc, row)? {
-            return Ok(Some(*name));
+        let mut image = file_of(alloc, 340, 0x42, Order::Little, &WORDS, row.words)?;
+        let mut disk = MemDisk::new(alloc, &image)?;
+        let answer = answer(&mut disk, &LIST.header, &Step::Give(row.hand));
+        if let Some(link) = row.link {
+            put_words(&mut image, Order::Little, &[link]);
         }
-    }
-    Ok(None)
-}
-
-/// A hand of a file with these words, and how many calls of a kind a give of it makes at least, each of which is
-/// answered where it fails.
-type Fault = (&'static Give, Call, u64);
-
-static FAULTS: [(&'static str, Fault); 6] = [
-    ("reads between free records", (&BETWEEN, Call::Read, 10)),
-    ("writes between free records", (&BETWEEN, Call::Write, 2)),
-    ("words between free records", (&BETWEEN, Call::WriteWord, 3)),
-    ("reads beside none", (&ALONE, Call::Read, 4)),
-    ("writes beside none", (&ALONE, Call::Write, 2)),
-    ("words beside none", (&ALONE, Call::WriteWord, 1)),
-];
-
-/// Whether each of so many calls ends the give where it fails.
-fn fault_holds(alloc: Global, row: &Fault) -> Result<bool, AllocError> {
-    let (give, call, count) = *row;
-    for nth in 0..count {
-        let mut disk = MemDisk::new(alloc, &file_with(alloc, give.words)?)?;
-        disk.fail(call, nth)?;
-        let (off, rec_len) = give.hand;
-        if given(&mut disk, off, rec_len) != Some(Err(FreeRefusal::Io)) {
-            return Ok(false);
+        if let Some((off, next, rec_len)) = row.record {
+            put_words(&mut image, Order::Little, &written(off, next, rec_len));
         }
-    }
-    Ok(true)
-}
-
-/// The first calls of a give that don't end it where they fail.
-pub(crate) fn failing_fault(alloc: Global) -> Result<Option<&'static str>, AllocError> {
-    for (name, row) in &FAULTS {
-        if !fault_holds(alloc, row)? {
+        let is_read = match row.read {
+            Some(count) => disk.bytes_read() == count,
+            None => true,
+        };
+        if answer != Some(Ok(None)) || disk.as_slice() != image.as_slice() || !is_read {
             return Ok(Some(*name));
         }
     }

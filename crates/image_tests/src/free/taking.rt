@@ -1,174 +1,228 @@
-// Takes from a small file of three free records in memory.
+// Takes from small files in memory: one with three free records, and new ones, which have none and grow.
 
-ghost use Rattle.std.specs.Prelude.{◌≡◌, ◌%◌, ◌≤◌};
-
-use crate::free::files::{Word, file_of};
+use crate::files::file_of;
+use crate::free::files::{File, MOST, Place, Step, answer, bytes_of, has_list};
+use small_file::{HEADER, Word};
 use std::alloc::{AllocError, Global};
-use tdb_disk::{Call, MemDisk};
-use tdb_free::{ListRefusal, list, take_fit};
-use tdb_space::{Direct, Io};
-use tdb_words::{FREE, HashKind, Header, Order};
+use tdb_disk::MemDisk;
+use tdb_free::FreeRefusal;
+use tdb_words::{FREE, Header, Order};
 
-const HEADER: Header = Header {
-    order: Order::Big,
-    hash: HashKind::Old,
-    hash_size: 1,
-    recovery_start: 0,
-    sequence: 0,
+/// A file with a free list of records at 176, 208 and 308, with 8, 76 and 40 bytes behind their headers.
+pub(crate) const THREE: File = File {
+    header: Header {
+        order: Order::Big,
+        hash_size: 1,
+        ..HEADER
+    },
+    len: 372,
+    fill: 0,
+    words: &[
+        (168, 176),
+        (176, 208),
+        (180, 8),
+        (196, FREE),
+        (204, 32),
+        (208, 308),
+        (212, 76),
+        (228, FREE),
+        (304, 100),
+        (308, 0),
+        (312, 40),
+        (328, FREE),
+        (368, 64),
+    ],
+    later: &[],
 };
 
-/// The offset and the length of a record.
-type Place = (u32, u32);
+/// A new file of 131 chains, whose lists are all empty. What stands in front of their heads isn't read.
+pub(crate) const NEW: File = File {
+    header: HEADER,
+    len: 696,
+    fill: 0,
+    words: &[],
+    later: &[],
+};
 
-/// A free list of records at 176, 208 and 308, with 8, 76 and 40 bytes behind their headers.
-const WORDS: [Word; 13] = [
-    (168, 176),
-    (176, 208),
-    (180, 8),
-    (196, FREE),
-    (204, 32),
-    (208, 308),
-    (212, 76),
-    (228, FREE),
-    (304, 100),
-    (308, 0),
-    (312, 40),
-    (328, FREE),
-    (368, 64),
-];
-
-/// The file of these words, with other words at some places.
-fn file_with(alloc: Global, words: &[Word]) -> Result<MemDisk, AllocError> {
-    MemDisk::new(alloc, &file_of(alloc, 372, 0, Order::Big, &WORDS, words)?)
+/// A take from a file, what it answers, the free list that is left, where it is looked at, how long the file is then,
+/// and the words of the file then, with zeros elsewhere, where they are looked at.
+struct Take {
+    file: File,
+    step: Step,
+    want: Result<Option<Place>, FreeRefusal>,
+    list: Option<&'static [Place]>,
+    after: usize,
+    words: Option<&'static [Word]>,
 }
 
-/// Whether the free list of a file has just these records.
-fn has_list(alloc: Global, disk: &mut MemDisk, want: &[Place]) -> Result<bool, ListRefusal> {
-    let records = list(alloc, &mut Direct::new(disk, &HEADER))?;
-    for (i, place) in want.iter().enumerate() {
-        if records.get(i) != Some(*place) {
-            return Ok(false);
-        }
-    }
-    Ok(records.len() == want.len())
-}
+/// A take of 40 bytes from the list, where none is found.
+const FIT: Take = Take {
+    file: THREE,
+    step: Step::TakeFit(40),
+    want: Ok(None),
+    list: None,
+    after: 372,
+    words: None,
+};
 
-/// What a take of so many bytes from the free list of a file answers.
-fn take(disk: &mut MemDisk, rec_len: u64) -> Result<Option<Place>, Io>
-    requires whole_words { rec_len % 4 ≡ 0 }
-    requires least { 4 ≤ rec_len }
-{
-    match take_fit(&mut Direct::new(disk, &HEADER), rec_len)? {
-        Some(hand) => {
-            let place = (hand.off(), hand.rec_len());
-            hand.end();
-            Ok(Some(place))
-        }
-        None => Ok(None),
-    }
-}
+/// A new file grows to a whole page. The record is the end of what the file gained, and the rest of that is free.
+const PAGE: Take = Take {
+    file: NEW,
+    step: Step::Take(8, MOST),
+    want: Ok(Some((4064, 8))),
+    list: None,
+    after: 4096,
+    words: Some(&[
+        (168, 696),
+        (700, 3344),
+        (716, FREE),
+        (4060, 3368),
+        (4092, 3400),
+    ]),
+};
 
-/// A file with other words, what a take of so many bytes gives there, and the free list that is left, where it is
-/// looked at.
-type Take = (
-    &'static [Word],
-    u64,
-    Option<Place>,
-    Option<&'static [Place]>,
-);
+/// It grows by just the need of 32 bytes.
+const NEED: Take = Take {
+    step: Step::Take(8, 728),
+    want: Ok(Some((696, 8))),
+    after: 728,
+    words: None,
+    ..PAGE
+};
 
-static TAKES: [(&'static str, Take); 8] = [
+static TAKES: [(&'static str, Take); 14] = [
     (
         "the first record as it is",
-        (&[], 8, Some((176, 8)), Some(&[(208, 76), (308, 40)])),
+        Take {
+            step: Step::TakeFit(8),
+            want: Ok(Some((176, 8))),
+            list: Some(&[(208, 76), (308, 40)]),
+            ..FIT
+        },
     ),
     (
         "the end of the second one",
-        (
-            &[],
-            40,
-            Some((244, 40)),
-            Some(&[(176, 8), (208, 12), (308, 40)]),
-        ),
+        Take {
+            want: Ok(Some((244, 40))),
+            list: Some(&[(176, 8), (208, 12), (308, 40)]),
+            ..FIT
+        },
     ),
     (
         "the second one as it is, too short to be parted",
-        (&[], 44, Some((208, 76)), Some(&[(176, 8), (308, 40)])),
+        Take {
+            step: Step::TakeFit(44),
+            want: Ok(Some((208, 76))),
+            list: Some(&[(176, 8), (308, 40)]),
+            ..FIT
+        },
     ),
     (
         "none that is long enough",
-        (&[], 80, None, Some(&[(176, 8), (208, 76), (308, 40)])),
+        Take {
+            step: Step::TakeFit(80),
+            list: Some(&[(176, 8), (208, 76), (308, 40)]),
+            ..FIT
+        },
     ),
     // What is no record ends the list.
     (
         "a next in front of the data",
-        (&[(176, 100)], 40, None, None),
+        Take {
+            file: File {
+                later: &[(176, 100)],
+                ..THREE
+            },
+            ..FIT
+        },
     ),
-    ("a next to no whole word", (&[(176, 210)], 40, None, None)),
-    ("a next that leads back", (&[(176, 176)], 40, None, None)),
+    (
+        "a next to no whole word",
+        Take {
+            file: File {
+                later: &[(176, 210)],
+                ..THREE
+            },
+            ..FIT
+        },
+    ),
+    (
+        "a next that leads back",
+        Take {
+            file: File {
+                later: &[(176, 176)],
+                ..THREE
+            },
+            ..FIT
+        },
+    ),
     (
         "a record that passes the end of the file",
-        (&[(212, 76000)], 40, None, None),
+        Take {
+            file: File {
+                later: &[(212, 76000)],
+                ..THREE
+            },
+            ..FIT
+        },
+    ),
+    ("a whole page", PAGE),
+    (
+        "a whole page up to the limit",
+        Take {
+            step: Step::Take(8, 4096),
+            ..PAGE
+        },
+    ),
+    (
+        "just the need where no page is left",
+        Take {
+            step: Step::Take(8, 4095),
+            ..NEED
+        },
+    ),
+    ("just the need up to the limit", NEED),
+    (
+        "full one byte below",
+        Take {
+            step: Step::Take(8, 727),
+            want: Err(FreeRefusal::Full { len: 696, need: 32 }),
+            after: 696,
+            words: Some(&[]),
+            ..PAGE
+        },
+    ),
+    // A quarter as much again is more than what is needed.
+    (
+        "a long file by a quarter",
+        Take {
+            file: File { len: 40960, ..NEW },
+            want: Ok(Some((53216, 8))),
+            after: 53248,
+            words: None,
+            ..PAGE
+        },
     ),
 ];
-
-/// Whether a take goes so.
-fn take_holds(alloc: Global, row: &Take) -> Result<bool, AllocError> {
-    let (words, rec_len, want, left) = *row;
-    if rec_len % 4 != 0 || rec_len < 4 {
-        return Ok(false);
-    }
-    let mut disk = file_with(alloc, words)?;
-    let is_taken = take(&mut disk, rec_len) == Ok(want);
-    Ok(match left {
-        Some(left) => is_taken && has_list(alloc, &mut disk, left) == Ok(true),
-        None => is_taken,
-    })
-}
 
 /// The first take that doesn't go so.
 pub(crate) fn failing_take(alloc: Global) -> Result<Option<&'static str>, AllocError> {
     for (name, row) in &TAKES {
-        if !take_holds(alloc, row)? {
-            return Ok(Some(*name));
-        }
-    }
-    Ok(None)
-}
-
-/// How many calls of a kind a take of 40 bytes makes at least, or a walk along the free list, each of which is answered
-/// where it fails.
-type Fault = (bool, Call, u64);
-
-// A take reads the head and the headers up to the record, whose front is written in two parts.
-static FAULTS: [(&'static str, Fault); 3] = [
-    ("reads of a take", (true, Call::Read, 3)),
-    ("writes of a take", (true, Call::Write, 2)),
-    ("reads of a list", (false, Call::Read, 4)),
-];
-
-/// Whether each of so many calls ends a take, or a walk along the list, where it fails.
-fn fault_holds(alloc: Global, row: &Fault) -> Result<bool, AllocError> {
-    let (takes, call, count) = *row;
-    for nth in 0..count {
-        let mut disk = file_with(alloc, &[])?;
-        disk.fail(call, nth)?;
-        let is_told = if takes {
-            take(&mut disk, 40) == Err(Io)
-        } else {
-            has_list(alloc, &mut disk, &[]) == Err(ListRefusal::Io)
+        let header = &row.file.header;
+        let mut disk = MemDisk::new(alloc, &bytes_of(alloc, &row.file)?)?;
+        let is_taken = answer(&mut disk, header, &row.step) == Some(row.want);
+        let is_left = match row.words {
+            Some(words) => {
+                let want = file_of(alloc, row.after, 0, Order::Little, words, &[])?;
+                disk.as_slice() == want.as_slice()
+            }
+            None => disk.as_slice().len() == row.after,
         };
-        if !is_told {
-            return Ok(false);
-        }
-    }
-    Ok(true)
-}
-
-/// The first calls that don't end what makes them where they fail.
-pub(crate) fn failing_fault(alloc: Global) -> Result<Option<&'static str>, AllocError> {
-    for (name, row) in &FAULTS {
-        if !fault_holds(alloc, row)? {
+        let is_listed = match row.list {
+            Some(list) => has_list(alloc, &mut disk, header, list) == Ok(true),
+            None => true,
+        };
+        if !is_taken || !is_left || !is_listed {
             return Ok(Some(*name));
         }
     }

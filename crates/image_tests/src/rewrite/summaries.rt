@@ -1,12 +1,13 @@
 // Summaries of files in memory, and the lines of their records.
 
 use crate::check::files::{HEADER as ONE_CHAIN, file_of};
+use crate::files::disk_of;
 use small_file::{HEADER, RECORD, Word};
 use std::alloc::{AllocError, Global};
 use tdb_check::Report;
 use tdb_disk::{Call, MemDisk};
 use tdb_rewrite::{LinesRefusal, Spot, Summary, SummaryRefusal, chain_lines, summary};
-use tdb_space::{Direct, Space};
+use tdb_space::Direct;
 use tdb_words::{DEAD, FREE, GATE_SHUT, Header, Order, USED, What};
 
 /// A file of this header and this length, with these words, and others over them: its summary, and all its lines.
@@ -45,7 +46,7 @@ const SMALL_LINES: [Spot; 2] = [
 
 /// One chain of a used record at 176, of the key `k` and the value `vw`, and a dead one at 208; free records at 240 and
 /// 320; and an undo area at 280 behind 8 bytes of padding. 8 bytes of 0 stand behind it.
-const EACH_KIND: [Word; 25] = [
+pub(crate) const EACH_KIND: [Word; 25] = [
     (44, 280),
     (168, 240),
     (172, 176),
@@ -171,76 +172,58 @@ static CASES: [(&'static str, Case); 5] = [
     ),
 ];
 
-/// Puts lines behind others.
-fn push_all(lines: &mut Vec<Spot>, more: &[Spot]) -> Result<(), AllocError> {
-    for spot in more {
-        lines.push(*spot)?;
-    }
-    Ok(())
-}
-
 /// The lines of all chains of a file.
-fn all_lines<S: Space>(alloc: Global, s: &mut S) -> Result<Vec<Spot>, LinesRefusal> {
+fn all_lines(
+    alloc: Global,
+    disk: &mut MemDisk,
+    header: &Header,
+) -> Result<Vec<Spot>, LinesRefusal> {
     let mut lines = Vec::new(alloc);
-    for chain in 0..s.hash_size() {
-        push_all(&mut lines, chain_lines(alloc, s, chain)?.as_slice())?;
+    for chain in 0..header.hash_size {
+        let shown = chain_lines(alloc, &mut Direct::new(disk, header), chain)?;
+        lines.extend_from_slice(shown.as_slice())?;
     }
     Ok(lines)
 }
 
-/// The bytes of a file.
-fn bytes_of(alloc: Global, case: &Case) -> Result<Vec<u8>, AllocError> {
-    file_of(alloc, &case.header, case.len, case.words, case.changed)
-}
-
-/// Whether a summary and the lines of a file are these.
-fn file_holds(alloc: Global, case: &Case) -> Result<bool, AllocError> {
-    let mut disk = MemDisk::new(alloc, &bytes_of(alloc, case)?)?;
-    let mut view = Direct::new(&mut disk, &case.header);
-    let summed = summary(alloc, &mut view);
-    let lines = all_lines(alloc, &mut view);
-    Ok(summed == case.want && lines.as_deref() == Ok(case.lines))
+/// The summary of a file in which this read fails, if one is named, and the lines of one in which it does.
+fn told(
+    alloc: Global,
+    case: &Case,
+    failing: Option<(Call, u64)>,
+) -> Result<
+    (
+        Result<Summary, SummaryRefusal>,
+        Result<Vec<Spot>, LinesRefusal>,
+    ),
+    AllocError,
+> {
+    let bytes = file_of(alloc, &case.header, case.len, case.words, case.changed)?;
+    let mut disk = disk_of(alloc, &bytes, failing)?;
+    let summed = summary(alloc, &mut Direct::new(&mut disk, &case.header));
+    let mut disk = disk_of(alloc, &bytes, failing)?;
+    Ok((summed, all_lines(alloc, &mut disk, &case.header)))
 }
 
 /// The first file of which they are others.
 pub(super) fn failing_file(alloc: Global) -> Result<Option<&'static str>, AllocError> {
     for (name, case) in &CASES {
-        if !file_holds(alloc, case)? {
+        let (summed, lines) = told(alloc, case, None)?;
+        if summed != case.want || lines.as_deref() != Ok(case.lines) {
             return Ok(Some(*name));
         }
     }
     Ok(None)
 }
 
-/// Whether a summary and the lines end as a fault of the disk where the read of this number fails, counted from 0, or as
-/// ever where they make no such read: then there is nothing more to try.
-fn fault_holds(
-    alloc: Global,
-    header: &Header,
-    bytes: &[u8],
-    nth: u64,
-) -> Result<Option<bool>, AllocError> {
-    let mut disk = MemDisk::new(alloc, bytes)?;
-    disk.fail(Call::Read, nth)?;
-    let summed = summary(alloc, &mut Direct::new(&mut disk, header));
-    let mut disk = MemDisk::new(alloc, bytes)?;
-    disk.fail(Call::Read, nth)?;
-    let lines = all_lines(alloc, &mut Direct::new(&mut disk, header));
-    match (summed, lines) {
-        (Ok(_), Ok(_)) => Ok(None),
-        (Ok(_) | Err(SummaryRefusal::Io), Ok(_) | Err(LinesRefusal::Io)) => Ok(Some(true)),
-        _ => Ok(Some(false)),
-    }
-}
-
-/// Whether that is so of each read of a file.
+/// Whether a summary and the lines end as a fault of the disk where one read fails, and go on to their end where there
+/// is no such read.
 fn faults_hold(alloc: Global, case: &Case) -> Result<bool, AllocError> {
-    let bytes = bytes_of(alloc, case)?;
     for nth in 0..300u64 {
-        match fault_holds(alloc, &case.header, &bytes, nth)? {
-            None => return Ok(true),
-            Some(true) => {}
-            Some(false) => return Ok(false),
+        match told(alloc, case, Some((Call::Read, nth)))? {
+            (Ok(_), Ok(_)) => return Ok(true),
+            (Ok(_) | Err(SummaryRefusal::Io), Ok(_) | Err(LinesRefusal::Io)) => {}
+            _ => return Ok(false),
         }
     }
     Ok(false)

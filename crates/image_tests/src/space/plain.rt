@@ -1,93 +1,65 @@
 //! The plain program over the bytes of two small files, in both byte orders.
 
-ghost use Rattle.std.specs.Prelude.{◌≡◌};
-
-use crate::rows::first_false;
-use small_file::RECORD;
+use crate::files::file_of;
+use small_file::{HEADER, RECORD, Word};
 use std::alloc::{AllocError, Global};
 use tdb_space::{chain_offsets, pairs_in_order, rec_len_for, record_at};
-use tdb_words::{DEAD, FREE, HashKind, Header, Order, USED, word_bytes};
+use tdb_words::{DEAD, FREE, Header, Order, USED};
 
-fn header(order: Order, hash_size: u32) -> Header
-    ensures { result.hash_size ≡ hash_size }
-{
-    Header {
-        order,
-        hash: HashKind::Old,
-        hash_size,
-        recovery_start: 0,
-        sequence: 0,
-    }
-}
+/// An offset in the file of one record, and the next, the length and those of the key and the value of the record that
+/// stands there, if one does.
+type Found = (u32, Option<(u32, u32, u32, u32)>);
 
-fn put_word(image: &mut [u8], at: usize, word: u32, order: Order) {
-    if at <= image.len() && image.len() - at >= 4 {
-        image[at..at + 4].copy_from_slice(&word_bytes(word, order));
-    }
-}
-
-// An image of this length that has these words at these offsets, and else zeros.
-fn image_of(
-    alloc: Global,
-    length: usize,
-    order: Order,
-    words: &[(usize, u32)],
-) -> Result<Vec<u8>, AllocError> {
-    let mut image = vec![in alloc; 0u8; length]?;
-    for (at, word) in words {
-        put_word(&mut image, *at, *word, order);
-    }
-    Ok(image)
-}
-
-/// Offsets in the file of one record, and whether a record stands there.
-static PLACES: [(&'static str, u32, bool); 6] = [
-    ("the free record", 696, true),
-    ("the used record", 4064, true),
-    ("a place within it", 4068, false),
-    ("the start", 0, false),
-    ("the end", 4096, false),
-    ("a place behind the end", u32::MAX, false),
+static FOUND: [(&'static str, Found); 6] = [
+    ("the free record", (696, Some((0, 3344, 0, 0)))),
+    ("the used record", (4064, Some((0, 8, 1, 1)))),
+    ("a place within it", (4068, None)),
+    ("the start", (0, None)),
+    ("the end", (4096, None)),
+    ("a place behind the end", (u32::MAX, None)),
 ];
 
-/// What is otherwise in a file of 131 chains after `store a 1`: a free record, and behind it the used one.
-pub(crate) fn failing_place(alloc: Global) -> Result<Option<&'static str>, AllocError> {
-    let image = image_of(alloc, 4096, Order::Little, &RECORD)?;
-    let header = header(Order::Little, 131);
-    if image.len() != 4096 {
-        return Ok(Some("the length"));
-    }
-    for (name, at, whole) in &PLACES {
-        if record_at(&image, &header, *at).is_some() != *whole {
+/// The first record of that file that isn't found so.
+pub(crate) fn failing_record(alloc: Global) -> Result<Option<&'static str>, AllocError> {
+    let image = file_of(alloc, 4096, 0, Order::Little, &RECORD, &[])?;
+    for (name, (at, want)) in &FOUND {
+        let found = match record_at(&image, &HEADER, *at) {
+            Some(rec) => Some((rec.next, rec.rec_len, rec.key_len, rec.data_len)),
+            None => None,
+        };
+        if found != *want {
             return Ok(Some(*name));
         }
     }
-    let is_read = record_at(&image, &header, 4064).is_some_and(|rec| {
-        rec.next == 0 && rec.rec_len == 8 && rec.key_len == 1 && rec.data_len == 1
-    });
-    let offs = chain_offsets(alloc, &image, &header, 200)?;
-    let none = chain_offsets(alloc, &image, &header, 168)?;
-    let Some(pairs) = pairs_in_order(alloc, &image, &header)? else {
-        return Ok(Some("no pairs"));
-    };
-    let Some(pair) = pairs.first() else {
-        return Ok(Some("no pair"));
-    };
-    Ok(first_false(&[
-        ("the header of the record", is_read),
-        (
-            "the chain of the record",
-            offs.is_some_and(|offs| offs.as_slice() == [4064].as_slice()),
-        ),
-        ("the free list is no chain", none.is_none()),
-        ("one pair", pairs.len() == 1),
-        ("its key", pair.key == b"a".as_slice()),
-        ("its value", pair.value == b"1".as_slice()),
-    ]))
+    Ok(None)
+}
+
+/// Offsets of heads in that file, and whether a chain of the used record alone begins there, or none.
+static HEADS: [(&'static str, u16, bool); 2] = [
+    ("the chain of the record", 200, true),
+    ("the free list, which is no chain", 168, false),
+];
+
+/// The first head of which that isn't so.
+pub(crate) fn failing_head(alloc: Global) -> Result<Option<&'static str>, AllocError> {
+    let image = file_of(alloc, 4096, 0, Order::Little, &RECORD, &[])?;
+    for (name, head, want) in &HEADS {
+        if *head as usize + 4 > image.len() {
+            return Ok(Some(*name));
+        }
+        let holds = match chain_offsets(alloc, &image, &HEADER, *head as usize)? {
+            Some(offs) => *want && offs.as_slice() == [4064].as_slice(),
+            None => !*want,
+        };
+        if !holds {
+            return Ok(Some(*name));
+        }
+    }
+    Ok(None)
 }
 
 /// A big-endian file of one chain with a used record, a dead one and another used one.
-const WORDS: [(usize, u32); 22] = [
+const WORDS: [Word; 22] = [
     (172, 176),
     (176, 208),
     (180, 8),
@@ -112,60 +84,152 @@ const WORDS: [(usize, u32); 22] = [
     (268, 32),
 ];
 
-/// One word of it that is changed, and how many pairs the file has then, if it has any.
-static CHAINS: [(&'static str, (usize, u32), Option<usize>); 8] = [
-    ("the file as it is", (0, 0), Some(2)),
-    ("an empty chain", (172, 0), Some(0)),
-    ("a head to the last record", (172, 240), Some(1)),
-    ("a chain that leads back", (240, 176), None),
-    ("a value that is too long", (252, 4), None),
-    ("another tailer", (236, 31), None),
-    ("a free record in a chain", (228, FREE), None),
-    ("a record that passes the end", (244, 12), None),
-];
+/// A pair of a key and its value.
+type Pair = (&'static [u8], &'static [u8]);
 
-/// Whether the file has so many pairs with a word changed, of which the last is that of `b`.
-fn chain_holds(
-    alloc: Global,
-    change: (usize, u32),
-    want: Option<usize>,
-) -> Result<bool, AllocError> {
-    let mut image = image_of(alloc, 272, Order::Big, &WORDS)?;
-    put_word(&mut image, change.0, change.1, Order::Big);
-    if image.len() != 272 {
-        return Ok(false);
-    }
-    Ok(
-        match (pairs_in_order(alloc, &image, &header(Order::Big, 1))?, want) {
-            (None, None) => true,
-            (Some(pairs), Some(count)) => {
-                pairs.len() == count
-                    && pairs.last().is_none_or(|last| {
-                        last.key == b"b".as_slice() && last.value == b"2".as_slice()
-                    })
-            }
-            _ => false,
-        },
-    )
+/// A file of this header and this length, its words, those that are changed, and its pairs, if its chains are sound.
+struct Pairs {
+    header: Header,
+    len: usize,
+    words: &'static [Word],
+    changed: &'static [Word],
+    want: Option<&'static [Pair]>,
 }
 
-/// The first change after which the file has other pairs.
-pub(crate) fn failing_chain(alloc: Global) -> Result<Option<&'static str>, AllocError> {
-    for (name, change, want) in &CHAINS {
-        if !chain_holds(alloc, *change, *want)? {
+/// The big-endian file with a fault.
+const FAULTY: Pairs = Pairs {
+    header: Header {
+        order: Order::Big,
+        hash_size: 1,
+        ..HEADER
+    },
+    len: 272,
+    words: &WORDS,
+    changed: &[],
+    want: None,
+};
+
+static PAIRS: [(&'static str, Pairs); 9] = [
+    (
+        "the file of one record",
+        Pairs {
+            header: HEADER,
+            len: 4096,
+            words: &RECORD,
+            want: Some(&[(b"a", b"1")]),
+            ..FAULTY
+        },
+    ),
+    (
+        "the file as it is",
+        Pairs {
+            want: Some(&[(b"a", b"1"), (b"b", b"2")]),
+            ..FAULTY
+        },
+    ),
+    (
+        "an empty chain",
+        Pairs {
+            changed: &[(172, 0)],
+            want: Some(&[]),
+            ..FAULTY
+        },
+    ),
+    (
+        "a head to the last record",
+        Pairs {
+            changed: &[(172, 240)],
+            want: Some(&[(b"b", b"2")]),
+            ..FAULTY
+        },
+    ),
+    (
+        "a chain that leads back",
+        Pairs {
+            changed: &[(240, 176)],
+            ..FAULTY
+        },
+    ),
+    (
+        "a value that is too long",
+        Pairs {
+            changed: &[(252, 4)],
+            ..FAULTY
+        },
+    ),
+    (
+        "another tailer",
+        Pairs {
+            changed: &[(236, 31)],
+            ..FAULTY
+        },
+    ),
+    (
+        "a free record in a chain",
+        Pairs {
+            changed: &[(228, FREE)],
+            ..FAULTY
+        },
+    ),
+    (
+        "a record that passes the end",
+        Pairs {
+            changed: &[(244, 12)],
+            ..FAULTY
+        },
+    ),
+];
+
+fn are_equal(left: &[u8], right: &[u8]) -> bool {
+    left == right
+}
+
+/// Whether a file has these pairs.
+fn pairs_hold(alloc: Global, row: &Pairs) -> Result<bool, AllocError> {
+    let order = row.header.order;
+    let image = file_of(alloc, row.len, 0, order, row.words, row.changed)?;
+    if (image.len() as u64) < 168 + 4 * (u64::from(row.header.hash_size) + 1) {
+        return Ok(false);
+    }
+    let Some(pairs) = pairs_in_order(alloc, &image, &row.header)? else {
+        return Ok(row.want.is_none());
+    };
+    let Some(want) = row.want else {
+        return Ok(false);
+    };
+    for (pair, (key, value)) in pairs.iter().zip(want) {
+        if !are_equal(pair.key, key) || !are_equal(pair.value, value) {
+            return Ok(false);
+        }
+    }
+    Ok(pairs.len() == want.len())
+}
+
+/// The first file that has other pairs.
+pub(crate) fn failing_pairs(alloc: Global) -> Result<Option<&'static str>, AllocError> {
+    for (name, row) in &PAIRS {
+        if !pairs_hold(alloc, row)? {
             return Ok(Some(*name));
         }
     }
     Ok(None)
 }
 
-/// What is otherwise where the room for a key and a value is rounded up.
+/// The lengths of a key and a value, and the room for them, in whole words and with a tailer.
+static ROOMS: [(&'static str, u16, u16, u64); 5] = [
+    ("nothing", 0, 0, 4),
+    ("a key", 1, 0, 8),
+    ("whole words", 3, 5, 16),
+    ("a word more", 8, 9, 28),
+    ("long ones", 100, 300, 504),
+];
+
+/// The first key and value that have another room.
 pub(crate) fn failing_room() -> Option<&'static str> {
-    first_false(&[
-        ("nothing", rec_len_for(0, 0) == 4),
-        ("a key", rec_len_for(1, 0) == 8),
-        ("whole words", rec_len_for(3, 5) == 16),
-        ("a word more", rec_len_for(8, 9) == 28),
-        ("long ones", rec_len_for(100, 300) == 504),
-    ])
+    for (name, key_len, value_len, want) in &ROOMS {
+        if rec_len_for(u64::from(*key_len), u64::from(*value_len)) != *want {
+            return Some(*name);
+        }
+    }
+    None
 }

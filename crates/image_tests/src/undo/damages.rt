@@ -1,12 +1,13 @@
 // Damaged undo areas: each damage is refused by its kind and its place, and nothing is written.
 
+use crate::files::put_words;
 use crate::undo::acts::{Act, act_on};
-use crate::undo::files::{OPEN, bytes_of, put_words};
+use crate::undo::files::{OPEN, bytes_of};
 use small_file::Word;
-use std::alloc::Global;
+use std::alloc::{AllocError, Global};
 use tdb_disk::MemDisk;
 use tdb_undo::UndoRefusal;
-use tdb_words::What;
+use tdb_words::{Order, What};
 
 /// A word that damages the file with the open gate, and the kind and the place of the fault that is named.
 type Damage = (Word, What, u64);
@@ -51,26 +52,22 @@ static DAMAGES: [(&'static str, Damage); 10] = [
     ),
 ];
 
-/// Whether a damage is refused so. None where memory is wanting.
-fn damage_holds(alloc: Global, row: &Damage) -> Option<bool> {
-    let (word, what, at) = *row;
-    let mut bytes = bytes_of(alloc, &OPEN).ok()?;
-    put_words(&mut bytes, &[word]);
-    let mut disk = MemDisk::new(alloc, &bytes).ok()?;
-    let answer = act_on(alloc, &mut disk, Act::Recover);
-    Some(
-        answer == Some(Err(UndoRefusal::UndoBad { what, at }))
-            && disk.as_slice() == bytes.as_slice()
-            && disk.syncs() == 0,
-    )
-}
-
 /// The first damage that isn't refused so.
-pub(crate) fn failing_damage(alloc: Global) -> Option<&'static str> {
-    for (name, row) in &DAMAGES {
-        if damage_holds(alloc, row) != Some(true) {
-            return Some(*name);
+pub(crate) fn failing_damage(alloc: Global) -> Result<Option<&'static str>, AllocError> {
+    for (name, (word, what, at)) in &DAMAGES {
+        let mut bytes = bytes_of(alloc, &OPEN)?;
+        put_words(&mut bytes, Order::Little, &[*word]);
+        let mut disk = MemDisk::new(alloc, &bytes)?;
+        let refusal = UndoRefusal::UndoBad {
+            what: *what,
+            at: *at,
+        };
+        if act_on(alloc, &mut disk, &Act::Recover) != Some(Err(refusal))
+            || disk.as_slice() != bytes.as_slice()
+            || disk.syncs() != 0
+        {
+            return Ok(Some(*name));
         }
     }
-    None
+    Ok(None)
 }

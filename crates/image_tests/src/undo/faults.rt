@@ -1,8 +1,9 @@
 // Calls that fail in acts on small files in memory: each is answered by Io.
 
+use crate::files::disk_of;
 use crate::undo::acts::{Act, act_on};
-use crate::undo::files::{FILE, Image, OPEN, ROOM, disk_of};
-use std::alloc::Global;
+use crate::undo::files::{FILE, Image, OPEN, ROOM, bytes_of};
+use std::alloc::{AllocError, Global};
 use tdb_disk::Call;
 use tdb_undo::UndoRefusal;
 
@@ -25,43 +26,46 @@ static FAULTS: [(&'static str, Fault); 13] = [
         "the first sync of the gate",
         (&OPEN, Act::SetGate, Call::Sync, 1),
     ),
-    ("syncs of a first area", (&FILE, Act::Place, Call::Sync, 3)),
+    (
+        "syncs of a first area",
+        (&FILE, Act::Place(18), Call::Sync, 3),
+    ),
     (
         "words of a first area",
-        (&FILE, Act::Place, Call::WriteWord, 2),
+        (&FILE, Act::Place(18), Call::WriteWord, 2),
     ),
     (
         "the growth of a first area",
-        (&FILE, Act::Place, Call::Grow, 1),
+        (&FILE, Act::Place(18), Call::Grow, 1),
     ),
     (
         "the read of a first area",
-        (&FILE, Act::Place, Call::Read, 1),
+        (&FILE, Act::Place(18), Call::Read, 1),
     ),
     ("writes of the content", (&ROOM, Act::Fill, Call::Write, 6)),
     ("reads of the content", (&ROOM, Act::Fill, Call::Read, 4)),
     ("the sync of the content", (&ROOM, Act::Fill, Call::Sync, 1)),
 ];
 
-/// Whether each of so many calls is answered where it fails. None where memory is wanting.
-fn fault_holds(alloc: Global, row: &Fault) -> Option<bool> {
-    let (file, act, call, count) = *row;
-    for nth in 0..count {
-        let mut disk = disk_of(alloc, file)?;
-        disk.fail(call, nth).ok()?;
+/// Whether each of so many calls is answered where it fails.
+fn fault_holds(alloc: Global, row: &Fault) -> Result<bool, AllocError> {
+    let (file, act, call, count) = row;
+    let bytes = bytes_of(alloc, file)?;
+    for nth in 0..*count {
+        let mut disk = disk_of(alloc, &bytes, Some((*call, nth)))?;
         if act_on(alloc, &mut disk, act) != Some(Err(UndoRefusal::Io)) {
-            return Some(false);
+            return Ok(false);
         }
     }
-    Some(true)
+    Ok(true)
 }
 
 /// The first calls that aren't answered so where they fail.
-pub(crate) fn failing_fault(alloc: Global) -> Option<&'static str> {
+pub(crate) fn failing_fault(alloc: Global) -> Result<Option<&'static str>, AllocError> {
     for (name, row) in &FAULTS {
-        if fault_holds(alloc, row) != Some(true) {
-            return Some(*name);
+        if !fault_holds(alloc, row)? {
+            return Ok(Some(*name));
         }
     }
-    None
+    Ok(None)
 }

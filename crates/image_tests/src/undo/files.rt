@@ -1,9 +1,9 @@
 // Small files in memory: sound ones, and ones with an undo area.
 
+use crate::files::{put, put_words};
 use small_file::{RECORD, Word};
 use std::alloc::{AllocError, Global};
-use tdb_disk::MemDisk;
-use tdb_words::{GATE_OPEN, GATE_SHUT, HashKind, Order, header_bytes, word_bytes};
+use tdb_words::{GATE_OPEN, GATE_SHUT, HashKind, Order, header_bytes};
 
 /// The file with one record, made longer by zeros to `len` bytes, with other words and then other bytes at some places.
 /// At `header_at`, if that is an offset, its first 44 bytes stand once more.
@@ -84,28 +84,14 @@ pub(crate) const WHOLE: Image = Image {
     ..OPEN
 };
 
-/// Puts some bytes at an offset, where there is room for them.
-fn put(bytes: &mut [u8], at: usize, what: &[u8]) {
-    if at < bytes.len() && bytes.len() - at >= what.len() {
-        bytes[at..at + what.len()].copy_from_slice(what);
-    }
-}
-
-/// Puts words into some bytes, those for which there is room.
-pub(crate) fn put_words(bytes: &mut [u8], words: &[Word]) {
-    for (at, word) in words {
-        put(bytes, *at, &word_bytes(*word, Order::Little));
-    }
-}
-
 /// The bytes of a file.
 pub(crate) fn bytes_of(alloc: Global, image: &Image) -> Result<Vec<u8>, AllocError> {
     let header = header_bytes(131, Order::Little, HashKind::Old);
     let mut bytes = vec![in alloc; 0u8; image.len]?;
     put(&mut bytes, 0, &header);
-    put_words(&mut bytes, &RECORD);
-    put_words(&mut bytes, image.words);
-    put_words(&mut bytes, image.later);
+    put_words(&mut bytes, Order::Little, &RECORD);
+    put_words(&mut bytes, Order::Little, image.words);
+    put_words(&mut bytes, Order::Little, image.later);
     for (at, what) in image.bytes {
         put(&mut bytes, *at, what);
     }
@@ -113,9 +99,4 @@ pub(crate) fn bytes_of(alloc: Global, image: &Image) -> Result<Vec<u8>, AllocErr
         put(&mut bytes, at, &header[..44]);
     }
     Ok(bytes)
-}
-
-/// A disk with a file. None where memory is wanting.
-pub(crate) fn disk_of(alloc: Global, image: &Image) -> Option<MemDisk> {
-    MemDisk::new(alloc, &bytes_of(alloc, image).ok()?).ok()
 }

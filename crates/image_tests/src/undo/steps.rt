@@ -1,31 +1,27 @@
 // Acts on small files in memory, one after the other: what each answers and leaves.
 
-use crate::undo::acts::{Act, act_on, is_open};
-use crate::undo::files::{FILE, FILLED, Image, OPEN, ROOM, WHOLE, bytes_of, disk_of};
+use crate::undo::acts::{Act, act_on};
+use crate::undo::files::{FILE, FILLED, Image, OPEN, ROOM, WHOLE, bytes_of};
 use small_file::Word;
-use std::alloc::Global;
+use std::alloc::{AllocError, Global};
 use tdb_disk::MemDisk;
 use tdb_words::{GATE_OPEN, GATE_SHUT};
 
-/// Whether the file needs recovery, an act on it, how many bytes that puts back, the file that it leaves, and how many
-/// syncs were made so far.
+/// The file that is made for a step, or none where it goes on from the one before. 1 where the file needs recovery, and
+/// else 0; an act on it, how many bytes that puts back, the file that it leaves, and how many syncs were made so far.
 struct Step {
-    open: bool,
+    file: Option<&'static Image>,
+    open: u64,
     act: Act,
     kept: u64,
     left: &'static Image,
     syncs: u64,
 }
 
-/// A file, and the steps that are taken there.
-struct Case {
-    file: &'static Image,
-    steps: &'static [(&'static str, Step)],
-}
-
 /// A recovery of a file that doesn't need it, after one that did.
 const AGAIN: Step = Step {
-    open: false,
+    file: None,
+    open: 0,
     act: Act::Recover,
     kept: 0,
     left: &FILE,
@@ -77,138 +73,102 @@ const MOVED: Image = Image {
     ..FILE
 };
 
-static CASES: [Case; 6] = [
+static STEPS: [(&'static str, Step); 9] = [
     // The file with an open gate becomes the file before, and then there is nothing more to undo.
-    Case {
-        file: &OPEN,
-        steps: &[
-            (
-                "a recovery",
-                Step {
-                    open: true,
-                    kept: 5,
-                    ..AGAIN
-                },
-            ),
-            ("a second recovery", AGAIN),
-        ],
-    },
-    Case {
-        file: &WHOLE,
-        steps: &[
-            (
-                "a recovery with the header",
-                Step {
-                    open: true,
-                    kept: 49,
-                    ..AGAIN
-                },
-            ),
-            ("a second recovery with the header", AGAIN),
-        ],
-    },
+    (
+        "a recovery",
+        Step {
+            file: Some(&OPEN),
+            open: 1,
+            kept: 5,
+            ..AGAIN
+        },
+    ),
+    ("a second recovery", AGAIN),
+    (
+        "a recovery with the header",
+        Step {
+            file: Some(&WHOLE),
+            open: 1,
+            kept: 49,
+            ..AGAIN
+        },
+    ),
+    ("a second recovery with the header", AGAIN),
     // An area below the old length stays with its gate shut. Of overlapping entries the last counts, and no entry
     // reaches into the area.
-    Case {
-        file: &BELOW,
-        steps: &[(
-            "a recovery below the old length",
-            Step {
-                open: true,
-                act: Act::Recover,
-                kept: 11,
-                left: &BELOW_SHUT,
-                syncs: 3,
-            },
-        )],
-    },
+    (
+        "a recovery below the old length",
+        Step {
+            file: Some(&BELOW),
+            open: 1,
+            kept: 11,
+            left: &BELOW_SHUT,
+            syncs: 3,
+            ..AGAIN
+        },
+    ),
     // The gate is shut and opened by one word and one sync each, and nothing else is written.
-    Case {
-        file: &OPEN,
-        steps: &[(
-            "the gate",
-            Step {
-                open: true,
-                act: Act::SetGate,
-                kept: 0,
-                left: &OPEN,
-                syncs: 2,
-            },
-        )],
-    },
+    (
+        "the gate",
+        Step {
+            file: Some(&OPEN),
+            open: 1,
+            act: Act::SetGate,
+            left: &OPEN,
+            syncs: 2,
+            ..AGAIN
+        },
+    ),
     // A first area, and one in its place, which leaves zeros where the first one stood.
-    Case {
-        file: &FILE,
-        steps: &[
-            (
-                "a first area",
-                Step {
-                    open: false,
-                    act: Act::Place,
-                    kept: 0,
-                    left: &PLACED,
-                    syncs: 3,
-                },
-            ),
-            (
-                "an area in its place",
-                Step {
-                    open: false,
-                    act: Act::PlaceEmpty,
-                    kept: 0,
-                    left: &MOVED,
-                    syncs: 8,
-                },
-            ),
-        ],
-    },
+    (
+        "a first area",
+        Step {
+            file: Some(&FILE),
+            act: Act::Place(18),
+            left: &PLACED,
+            syncs: 3,
+            ..AGAIN
+        },
+    ),
+    (
+        "an area in its place",
+        Step {
+            act: Act::Place(0),
+            left: &MOVED,
+            syncs: 8,
+            ..AGAIN
+        },
+    ),
     // The content that is filled in is that of the file with the open gate.
-    Case {
-        file: &ROOM,
-        steps: &[(
-            "the content",
-            Step {
-                open: false,
-                act: Act::Fill,
-                kept: 0,
-                left: &FILLED,
-                syncs: 1,
-            },
-        )],
-    },
+    (
+        "the content",
+        Step {
+            file: Some(&ROOM),
+            act: Act::Fill,
+            left: &FILLED,
+            syncs: 1,
+            ..AGAIN
+        },
+    ),
 ];
 
-/// Takes a step, and says whether it goes so. None where memory is wanting.
-fn step_holds(alloc: Global, disk: &mut MemDisk, step: &Step) -> Option<bool> {
-    let open = is_open(disk);
-    let answer = act_on(alloc, disk, step.act);
-    Some(
-        open == Some(Ok(step.open))
-            && answer == Some(Ok(step.kept))
-            && disk.syncs() == step.syncs
-            && disk.as_slice() == bytes_of(alloc, step.left).ok()?.as_slice(),
-    )
-}
-
-/// The first step of a case that doesn't go so, or what is to be said where memory is wanting for its file.
-fn failing_of(alloc: Global, case: &Case) -> Option<&'static str> {
-    let Some(mut disk) = disk_of(alloc, case.file) else {
-        return Some("no memory for a file");
-    };
-    for (name, step) in case.steps {
-        if step_holds(alloc, &mut disk, step) != Some(true) {
-            return Some(*name);
+/// The first step that doesn't go so.
+pub(crate) fn failing_step(alloc: Global) -> Result<Option<&'static str>, AllocError> {
+    let mut disk = MemDisk::new(alloc, &[])?;
+    for (name, step) in &STEPS {
+        if let Some(file) = step.file {
+            disk = MemDisk::new(alloc, &bytes_of(alloc, file)?)?;
+        }
+        let looked = act_on(alloc, &mut disk, &Act::Look);
+        let answer = act_on(alloc, &mut disk, &step.act);
+        if looked != Some(Ok(step.open))
+            || answer != Some(Ok(step.kept))
+            || disk.syncs() != step.syncs
+            || disk.as_slice() != bytes_of(alloc, step.left)?.as_slice()
+        {
+            return Ok(Some(*name));
         }
     }
-    None
-}
-
-/// The first step of all cases that doesn't go so.
-pub(crate) fn failing_step(alloc: Global) -> Option<&'static str> {
-    for case in &CASES {
-        if let Some(name) = failing_of(alloc, case) {
-            return Some(name);
-        }
-    }
-    None
+    Ok(None)
 }

@@ -6,88 +6,79 @@ use crate::undo::files::{FILE, Image, OPEN, WHOLE, bytes_of};
 use std::alloc::{AllocError, Global};
 use tdb_disk::{FuseDisk, MemDisk, Pick};
 
-/// What a stop may leave.
-const PICKS: [Pick; 3] = [Pick::Synced, Pick::Read, Pick::Torn];
-
 static FILES: [(&'static str, &'static Image); 2] = [
     ("a recovery", &OPEN),
     ("a recovery with the header", &WHOLE),
 ];
 
-/// Recovers over a disk that passes `k` calls, and says whether that answered Ok.
-fn recover_through(alloc: Global, disk: MemDisk, k: u64) -> (MemDisk, bool) {
-    let mut fuse = FuseDisk::new(disk, k);
-    let done = matches!(act_on(alloc, &mut fuse, Act::Recover), Some(Ok(_)));
-    (fuse.inner(), done)
-}
-
-/// Whether a file that a stop left recovers to this one, but for what stands behind it and the word at 44.
-fn comes_back(alloc: Global, disk: MemDisk, want: &[u8]) -> bool {
-    let mut disk = disk;
-    if !matches!(act_on(alloc, &mut disk, Act::Recover), Some(Ok(_))) {
-        return false;
-    }
-    let left = disk.as_slice();
-    left.get(..44) == want.get(..44) && left.get(48..4096) == want.get(48..4096)
-}
-
-/// Whether all that a stop may leave of a disk recovers to a file.
-fn all_come_back(alloc: Global, disk: &MemDisk, want: &[u8]) -> Result<bool, AllocError> {
-    for pick in PICKS {
-        if !comes_back(alloc, disk.after_stop(alloc, pick)?, want) {
-            return Ok(false);
+/// Puts down what a stop may leave of a disk, but for what stands there as the last already.
+fn push_left(alloc: Global, left: &mut Vec<MemDisk>, disk: &MemDisk) -> Result<(), AllocError> {
+    for pick in [Pick::Synced, Pick::Read, Pick::Torn] {
+        let stopped = disk.after_stop(alloc, pick)?;
+        let is_known = match left.last() {
+            Some(last) => last.as_slice() == stopped.as_slice(),
+            None => false,
+        };
+        if !is_known {
+            left.push(stopped)?;
         }
     }
-    Ok(true)
+    Ok(())
 }
 
-/// Whether a recovery of what a stop left of a file comes to its end, and a second stop after each number of its calls
-/// leaves what recovers to that file.
-fn stops_again(alloc: Global, left: &[u8], want: &[u8]) -> Result<bool, AllocError> {
+/// All that a stop after each number of calls of a recovery may leave of a file, up to the recovery's end. None where
+/// it has no end.
+fn stopped(alloc: Global, bytes: &[u8]) -> Result<Option<Vec<MemDisk>>, AllocError> {
+    let mut left = Vec::new(alloc);
     for k in 0..64 {
-        let (disk, done) = recover_through(alloc, MemDisk::new(alloc, left)?, k);
-        if !all_come_back(alloc, &disk, want)? {
-            return Ok(false);
-        }
-        if done {
-            return Ok(true);
-        }
-    }
-    Ok(false)
-}
-
-/// Whether that is so of all that a stop may leave of a disk.
-fn all_stop_again(alloc: Global, disk: &MemDisk, want: &[u8]) -> Result<bool, AllocError> {
-    for pick in PICKS {
-        if !stops_again(alloc, disk.after_stop(alloc, pick)?.as_slice(), want)? {
-            return Ok(false);
+        let mut fuse = FuseDisk::new(MemDisk::new(alloc, bytes)?, k);
+        let answer = act_on(alloc, &mut fuse, &Act::Recover);
+        push_left(alloc, &mut left, &fuse.inner())?;
+        if matches!(answer, Some(Ok(_))) {
+            return Ok(Some(left));
         }
     }
-    Ok(true)
+    Ok(None)
 }
 
-/// Whether a recovery of a file comes to its end, and that is so of a stop after each number of its calls.
+/// Whether each of these files recovers to this one, but for what stands behind it and the word at 44.
+fn all_come_back(alloc: Global, files: &mut [MemDisk], want: &[u8]) -> bool {
+    for disk in files {
+        if !matches!(act_on(alloc, disk, &Act::Recover), Some(Ok(_))) {
+            return false;
+        }
+        let left = disk.as_slice();
+        if left.get(..44) != want.get(..44) || left.get(48..4096) != want.get(48..4096) {
+            return false;
+        }
+    }
+    true
+}
+
+/// Whether a recovery of a file comes to its end, and so does one of all that a stop may leave of it, of which a second
+/// stop leaves what recovers to the file of one record.
 fn stops_hold(alloc: Global, file: &Image) -> Result<bool, AllocError> {
-    let bytes = bytes_of(alloc, file)?;
     let want = bytes_of(alloc, &FILE)?;
-    for k in 0..64 {
-        let (disk, done) = recover_through(alloc, MemDisk::new(alloc, &bytes)?, k);
-        if !all_stop_again(alloc, &disk, &want)? {
+    let Some(first) = stopped(alloc, &bytes_of(alloc, file)?)? else {
+        return Ok(false);
+    };
+    for disk in &first {
+        let Some(mut second) = stopped(alloc, disk.as_slice())? else {
+            return Ok(false);
+        };
+        if !all_come_back(alloc, &mut second, &want) {
             return Ok(false);
         }
-        if done {
-            return Ok(true);
-        }
     }
-    Ok(false)
+    Ok(true)
 }
 
 /// The first recovery that doesn't bring the file back after each stop.
-pub(crate) fn failing_stop(alloc: Global) -> Option<&'static str> {
+pub(crate) fn failing_stop(alloc: Global) -> Result<Option<&'static str>, AllocError> {
     for (name, file) in &FILES {
-        if stops_hold(alloc, file) != Ok(true) {
-            return Some(*name);
+        if !stops_hold(alloc, file)? {
+            return Ok(Some(*name));
         }
     }
-    None
+    Ok(None)
 }

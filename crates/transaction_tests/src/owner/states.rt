@@ -1,13 +1,14 @@
-//! How turns leave the file, and what is told of them.
+// How turns leave the file, and what is told of them.
 
-use crate::owner::rows::{DONE, FileState, Row, STEP};
+use crate::owner::plays::{FileState, Moment};
+use crate::told::Told;
 use tdb_locks::Kind;
 use tdb_txn_owner::Wants;
 
 /// The row of a turn that wants no lock byte.
-pub(crate) const FREE: Row = Row {
+pub(crate) const FREE: Moment = Moment {
     wants: Wants::Nothing,
-    told: STEP,
+    told: Told::Step,
     file: SMALL,
 };
 
@@ -37,39 +38,39 @@ pub(crate) const OPENED: FileState = FileState {
 
 /// The rows of the first turns of a Commit or a Prepare that has a change: it takes its locks, places an undo area and
 /// fills it.
-pub(crate) const TAKES_RECORDS: Row = Row {
+pub(crate) const TAKES_RECORDS: Moment = Moment {
     wants: Wants::Records(Kind::Write),
     ..FREE
 };
 
-pub(crate) const TAKES_OPENING: Row = Row {
+pub(crate) const TAKES_OPENING: Moment = Moment {
     wants: Wants::Opening { numbered: false },
     ..FREE
 };
 
-pub(crate) const TAKES_NUMBER: Row = Row {
+pub(crate) const TAKES_NUMBER: Moment = Moment {
     wants: Wants::Opening { numbered: true },
     ..FREE
 };
 
-pub(crate) const PLACES_AREA: Row = Row {
+pub(crate) const PLACES_AREA: Moment = Moment {
     file: PLACED,
     ..FREE
 };
 
-pub(crate) const FILLS_AREA: Row = Row {
+pub(crate) const FILLS_AREA: Moment = Moment {
     file: FileState { syncs: 5, ..PLACED },
     ..FREE
 };
 
 /// It opens the gate.
-pub(crate) const OPENS_GATE: Row = Row {
+pub(crate) const OPENS_GATE: Moment = Moment {
     file: OPENED,
     ..FREE
 };
 
 /// The rows of the last four turns of a Commit that makes the value 2: it writes, syncs, shuts the gate, and lets go.
-pub(crate) const WRITES: Row = Row {
+pub(crate) const WRITES: Moment = Moment {
     file: FileState {
         value: b'2',
         ..OPENED
@@ -77,7 +78,7 @@ pub(crate) const WRITES: Row = Row {
     ..FREE
 };
 
-pub(crate) const SYNCS: Row = Row {
+pub(crate) const SYNCS: Moment = Moment {
     file: FileState {
         syncs: 7,
         value: b'2',
@@ -93,19 +94,22 @@ pub(crate) const SHUT: FileState = FileState {
     gate: 0,
 };
 
-pub(crate) const SHUTS_GATE: Row = Row { file: SHUT, ..FREE };
+pub(crate) const SHUTS_GATE: Moment = Moment { file: SHUT, ..FREE };
 
-pub(crate) const LETS_GO: Row = Row {
-    told: DONE,
+pub(crate) const LETS_GO: Moment = Moment {
+    told: Told::Done,
     file: SHUT,
     ..FREE
 };
 
 /// A turn that is told done, and leaves the file as the Start left it.
-pub(crate) const IS_DONE: Row = Row { told: DONE, ..FREE };
+pub(crate) const IS_DONE: Moment = Moment {
+    told: Told::Done,
+    ..FREE
+};
 
-pub(crate) const IS_DOOMED: Row = Row {
-    told: ("doomed", 0, 0),
+pub(crate) const IS_DOOMED: Moment = Moment {
+    told: Told::Doomed,
     ..FREE
 };
 

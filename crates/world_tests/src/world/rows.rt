@@ -1,8 +1,8 @@
 // The rows: scripts of plays, and what comes of each.
 
-use crate::world::files::{LAST_NUMBER, NEW, ONE};
+use crate::files::{NEW, OPTIONS};
+use crate::world::files::{LAST_NUMBER, ONE};
 use crate::world::tables::{Failing, Row};
-use crate::world::worlds::OPTIONS;
 use small_file::RECORD;
 use tdb_commands::Options;
 use tdb_disk::Call;

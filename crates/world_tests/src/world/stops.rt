@@ -1,7 +1,8 @@
 // Stops in the midst of a commit.
 
-use crate::world::files::{ONE, disk_of};
-use crate::world::worlds::{OPTIONS, take_script, text_of};
+use crate::files::{OPTIONS, disk_of};
+use crate::world::files::ONE;
+use crate::world::worlds::{print, take_script};
 use std::alloc::{AllocError, Global};
 use tdb_commands::TurnReport;
 use tdb_disk::{Disk, FuseDisk, MemDisk, MemSink, Pick};
@@ -30,7 +31,11 @@ fn told<D: Disk>(alloc: Global, disk: D, script: &[u8]) -> (D, Option<MemSink>) 
     let mut logs: Vec<Box<dyn Log>> = Vec::new(alloc);
     let mut report = TurnReport::new(alloc);
     let (disk, _ended) = take_script(alloc, disk, &OPTIONS, script, &mut report, &mut logs);
-    (disk, text_of(alloc, &report).ok())
+    let mut text = MemSink::new(alloc);
+    match print(alloc, &mut text, &report) {
+        Ok(()) => (disk, Some(text)),
+        Err(_) => (disk, None),
+    }
 }
 
 /// Commits the value `9` over a disk that passes `k` calls.
@@ -38,7 +43,10 @@ fn commit_through(alloc: Global, k: u64) -> Result<Stopped, AllocError> {
     let (fuse, text) = told(alloc, FuseDisk::new(disk_of(alloc, &ONE)?, k), COMMIT);
     Ok(Stopped {
         disk: fuse.inner(),
-        committed: text.is_some_and(|text| text.as_slice() == COMMITTED),
+        committed: match text {
+            Some(text) => text.as_slice() == COMMITTED,
+            None => false,
+        },
     })
 }
 

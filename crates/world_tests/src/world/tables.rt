@@ -1,17 +1,17 @@
 // Rows of plays, and whether each gives what it says.
 
-use crate::world::files::{Image, disk_of, has_words};
+use crate::files::{Image, disk_of};
+use crate::world::files::has_words;
 use crate::world::rows::ROWS;
-use crate::world::worlds::{take_script, text_of};
+use crate::world::worlds::{print, take_script};
 use small_file::Word;
 use std::alloc::{AllocError, Global};
 use tdb_commands::{Options, TurnReport};
-use tdb_disk::Call;
+use tdb_disk::{Call, MemSink};
 use tdb_log::{Log, LogRefusal, MemLog, Notice};
 use tdb_world::RunFault;
 
 /// What fails in a row: nothing, the nth call of a kind of the disk, or the first notice of each log.
-#[derive(Clone, Copy, Debug, PartialEq, Eq)]
 pub(crate) enum Failing {
     Nothing,
     Disk(Call, u64),
@@ -65,32 +65,25 @@ fn was_told(logs: &[Box<dyn Log>], heard: &[Notice]) -> bool {
     log.told(heard.len() as u64).is_none()
 }
 
-/// Whether a row gives what it says.
-fn holds(alloc: Global, row: &Row) -> Result<bool, AllocError> {
-    let mut disk = disk_of(alloc, &row.image)?;
-    let mut logs = logs_of(alloc, row.logs, row.failing == Failing::Logs)?;
-    if let Failing::Disk(call, nth) = row.failing {
-        disk.fail(call, nth)?;
-    }
-    let mut report = TurnReport::new(alloc);
-    let script = row.script.as_bytes();
-    let (disk, ends) = take_script(alloc, disk, &row.options, script, &mut report, &mut logs);
-    let Ok(text) = text_of(alloc, &report) else {
-        return Ok(false);
-    };
-    Ok(
-        ends == row.ends
-            && text.as_slice() == row.told.as_bytes()
-            && has_words(&disk, row.words)
-            && logs.len() == row.left
-            && was_told(&logs, row.heard),
-    )
-}
-
 /// What the first row shows that doesn't give what it says.
 pub(crate) fn failing_row(alloc: Global) -> Result<Option<&'static str>, AllocError> {
     for row in &ROWS {
-        if !holds(alloc, row)? {
+        let mut disk = disk_of(alloc, &row.image)?;
+        let mut logs = logs_of(alloc, row.logs, matches!(row.failing, Failing::Logs))?;
+        if let Failing::Disk(call, nth) = &row.failing {
+            disk.fail(*call, *nth)?;
+        }
+        let mut report = TurnReport::new(alloc);
+        let script = row.script.as_bytes();
+        let (disk, ends) = take_script(alloc, disk, &row.options, script, &mut report, &mut logs);
+        let mut text = MemSink::new(alloc);
+        if print(alloc, &mut text, &report) != Ok(())
+            || text.as_slice() != row.told.as_bytes()
+            || ends != row.ends
+            || !has_words(&disk, row.words)
+            || logs.len() != row.left
+            || !was_told(&logs, row.heard)
+        {
             return Ok(Some(row.what));
         }
     }

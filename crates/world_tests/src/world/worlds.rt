@@ -15,14 +15,6 @@ use tdb_world::{RunFault, World};
 /// How long a file may be in bytes.
 const LONGEST_FILE: u64 = 4_294_963_200;
 
-/// How the files of most rows are opened.
-pub(crate) const OPTIONS: Options = Options {
-    limit: LONGEST_FILE,
-    nesting: true,
-    read_only: false,
-    seqnum: false,
-};
-
 /// Whether the key and the value of a command have less than 100 bytes.
 fn is_short(command: &Command) -> bool
     ensures { IsTrue result → IsShortCommand command.now }
@@ -90,13 +82,16 @@ pub(crate) fn take_script<D: Disk, L: Logs>(
     }
 }
 
-/// The lines of a report as text.
-pub(crate) fn text_of(alloc: Global, report: &TurnReport) -> Result<MemSink, WriteRefusal> {
-    let mut text = MemSink::new(alloc);
+/// Prints the lines of a report.
+pub(crate) fn print(
+    alloc: Global,
+    out: &mut MemSink,
+    report: &TurnReport,
+) -> Result<(), WriteRefusal> {
     for i in 0..report.len() {
         if let Some(line) = report.get(i) {
-            write_line(alloc, &mut text, line)?;
+            write_line(alloc, out, line)?;
         }
     }
-    Ok(text)
+    Ok(())
 }

@@ -1,9 +1,0 @@
--- The opener holds no byte that is part of a longer piece.
-use Rattle.tdb_locks.specs.HeldLocks.{nothing_held}
-use Rattle.tdb_walk.specs.ByteLocks.{HoldsWords}
-use Rattle.transaction_tests.proofs.walk.cursors.walk_holds.Given as goal
-
-abbrev pub invariant-loop-goal : goal.invariant-loop-goal
-invariant-loop-goal l = record {
-  words : HoldsWords nothing_held 1 l.locks;
-}
