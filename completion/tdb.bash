@@ -64,8 +64,8 @@ _tdb() {
   case $command:${#positions[@]} in
     backup:* | dump:0 | restore:0 | turns:0 | tool:0 | gen:2) _tdb_names "$word" ;;
     tool:1)
-      _tdb_words "$word" "create show insert store storehex delete erase check info list free first next dump keys
-        hexkeys transaction_start transaction_commit transaction_cancel quit"
+      _tdb_words "$word" "create show insert store storehex delete erase check info list free repack first next dump
+        keys hexkeys transaction_start transaction_commit transaction_cancel quit"
       ;;
     tool:3) if [ "${positions[1]}" = create ]; then _tdb_words "$word" "default jenkins"; fi ;;
     tool:4) if [ "${positions[1]}" = create ]; then _tdb_words "$word" "little big"; fi ;;

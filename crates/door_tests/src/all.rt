@@ -3,7 +3,7 @@
 use crate::tables::first_failure;
 use crate::{
     backup, changes, create, generate, inserts, limits, lines, logs, long, options, printing,
-    rescues, sessions, summaries, turns, undo, verify,
+    rescues, rewrites, sessions, summaries, turns, undo, verify,
 };
 
 #[test]
@@ -19,6 +19,7 @@ fn lines_of_tables(rt: HostRuntime) {
         ("options", options::TABLES.as_slice()),
         ("printing", printing::TABLES.as_slice()),
         ("rescues", rescues::TABLES.as_slice()),
+        ("rewrites", rewrites::TABLES.as_slice()),
         ("sessions", sessions::TABLES.as_slice()),
         ("summaries", summaries::TABLES.as_slice()),
         ("turns", turns::TABLES.as_slice()),

@@ -30,6 +30,8 @@ mod printing;
 #[cfg(test)]
 mod rescues;
 #[cfg(test)]
+mod rewrites;
+#[cfg(test)]
 mod runs;
 #[cfg(test)]
 mod sessions;

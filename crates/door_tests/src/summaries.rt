@@ -123,9 +123,12 @@ pub(crate) static TABLES: [Table; 5] = [
 ];
 
 /// What is told of a file in which a value of 5000 bytes took the place of an empty one: the old record and what the
-/// file grew by are one free record.
+/// file grew by are one free record. Written anew the file is shorter.
 const GROWN: &str =
     "size 12288\nhash default 131 little\nsequence 0\nkeys 1\ndead 0\nfree 1\ndeadbytes 0\narea 0\nkeybytes 1\ndatabytes 5000\nlargestfree 5288\n";
+
+const REPACKED: &str =
+    "size 8192\nhash default 131 little\nsequence 0\nkeys 1\ndead 0\nfree 1\ndeadbytes 0\narea 0\nkeybytes 1\ndatabytes 5000\nlargestfree 1192\n";
 
 const GROWN_LIST: &str = "chain 10 1\nused 6008 1 5000 6256\n";
 
@@ -139,6 +142,9 @@ pub(crate) fn failing_growth(alloc: Global) -> Result<Option<&'static str>, Allo
         ("its numbers", "tool f.tdb info", GROWN),
         ("its records", "tool f.tdb list", GROWN_LIST),
         ("its free records", "tool f.tdb free", "free 696 5288\n"),
+        ("a repack", "tool f.tdb repack", "ok\n"),
+        ("its numbers then", "tool f.tdb info", REPACKED),
+        ("its free records then", "tool f.tdb free", "free 696 1192\n"),
     ] {
         let logs = &mut Vec::new(alloc);
         let (found, bytes) = answer(alloc, &mut files, words, b"", &Nothing, logs)?;

@@ -33,10 +33,11 @@ const TOOL: &str = "tdb tool FILE COMMAND [WORDS]   one command on a file
 tdb tool FILE                   a session: the lines of standard input are commands
 tdb tool FILE create [SIZE [default|jenkins [little|big]]]   a new file
 tdb tool FILE info|list|free    what the file holds in numbers, its records, its free records
+tdb tool FILE repack            the file is written anew, without the space that it doesn't need
 ";
 
 /// The words behind `tool FILE` that are no lines of a session.
-const ALONE: [&str; 4] = ["create", "info", "list", "free"];
+const ALONE: [&str; 5] = ["create", "info", "list", "free", "repack"];
 
 /// The names of the commands.
 const COMMANDS: [&str; 7] = ["tool", "dump", "restore", "backup", "turns", "gen", "help"];

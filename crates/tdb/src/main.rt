@@ -85,6 +85,7 @@ enum Shown {
 fn shown_of(rt: &HostRuntime, words: &[String]) -> Option<Shown> {
     match words.first()?.as_str() {
         "backup" => Some(Shown::Files),
+        "tool" if words.last()?.as_str() == "repack" => Some(Shown::Files),
         "restore" => Some(Shown::Input),
         "dump" if !rt.stdout().is_terminal() => Some(Shown::Output),
         _ => None,

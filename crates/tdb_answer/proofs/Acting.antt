@@ -12,7 +12,7 @@ use Rattle.tdb_cmdline.specs.declared.act.Verb.TheVariants.{Show, Insert, Store,
 use Rattle.tdb_steps.specs.Wiped.{at_end}
 use Rattle.tdb_open.specs.declared.halt.Refusal.TheVariants.{TooLong}
 use Rattle.tdb_cmdline.specs.declared.ask.Task.{Task}
-use Rattle.tdb_cmdline.specs.declared.ask.Task.TheVariants.{Create, On, Read, Rescue, Print, Restore, Backup, Verify, Turns, Session, Generate}
+use Rattle.tdb_cmdline.specs.declared.ask.Task.TheVariants.{Create, On, Read, Rescue, Print, Repack, Restore, Backup, Verify, Turns, Session, Generate}
 use Rattle.tdb_cmdline.specs.declared.lines.create.NewFile.{NewFile}
 use Rattle.tdb_answer.specs.declared.commands.create.Creation as Making
 use Rattle.tdb_answer.specs.declared.ending.Ending.{Ending}
@@ -39,6 +39,7 @@ use Rattle.tdb_answer.specs.Input.{Input}
 use Rattle.tdb_open.specs.Opening.{opened_bytes, CanOpen, UndoneIfOpen, HaltsBelow, LeavesBelow, of_fault}
 use Rattle.tdb_open.proofs.Openings.{same_or_undone}
 use Rattle.tdb_answer.proofs.Printing.{print_wants}
+use Rattle.tdb_answer.proofs.Repacking.{repack_wants}
 
 -- a failed call behind an act that was done leaves what one in its midst may leave
 done_breaks : (verb : Verb) (limit : ℕ) (old now : History) → Does limit verb old now → Breaks verb old now
@@ -172,6 +173,7 @@ task_wants input (On act) file held = on_wants act (held file)
 task_wants input (Read look) file held = refl
 task_wants input Rescue file held = refl
 task_wants input (Print printout limit) file held = print_wants limit (held file)
+task_wants input (Repack limit) file held = repack_wants limit file held
 task_wants input (Create form) file held = refl
 task_wants input (Restore limit) file held = record { left = inl refl; done = λ is. absurd (omega (arith, is)); there = λ some. refl }
 task_wants input (Backup more suffix) file held = record {
@@ -211,7 +213,7 @@ verify_ends input task more suffix name held before after e is (inr (inr (inl wa
 -- and why generated commands ended so
 pub gen_ends : (input : Input) (task : Task) (commands seed : ℕ) (name : List ℕ) (held : List ℕ → Option History) (before after : ℕ) (e : Ending) → task ≡ Generate commands seed → GenCause commands seed name (held name) before after e → AskEnds input task name held before after e
 gen_ends input task commands seed name held before after e is (inl cause) = inl (inl (subst (λ t. TaskCause t name (held name) before after e) (sym is) cause))
-gen_ends input task commands seed name held before after e is (inr ends) = inr (inr (inr (record { commands = commands; seed = seed; generates = is; none = ends.0; ends = ends.1 })))
+gen_ends input task commands seed name held before after e is (inr ends) = inr (inr (inr (inl (record { commands = commands; seed = seed; generates = is; none = ends.0; ends = ends.1 }))))
 
 -- an ending that tells nothing of the input, which was left as it was
 pub not_heard : (before after : ℕ) (e : Ending) → after ≡ before → of_input e ≡ false → HeardBy before after e

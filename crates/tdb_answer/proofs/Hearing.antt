@@ -12,7 +12,7 @@ use Rattle.tdb_log.specs.declared.notice.Notice.TheVariants.{Grew}
 use Rattle.tdb_cmdline.specs.Ask.{Ask}
 use Rattle.tdb_cmdline.specs.CopyNames.{copy_name, IsNameAmong}
 use Rattle.tdb_cmdline.specs.declared.ask.Task.{Task}
-use Rattle.tdb_cmdline.specs.declared.ask.Task.TheVariants.{Create, On, Read, Rescue, Print, Restore, Backup, Verify, Turns, Session, Generate}
+use Rattle.tdb_cmdline.specs.declared.ask.Task.TheVariants.{Create, On, Read, Rescue, Print, Repack, Restore, Backup, Verify, Turns, Session, Generate}
 use Rattle.tdb_open.specs.declared.halt.Fault.{Fault}
 use Rattle.tdb_open.specs.declared.halt.Fault.TheVariants as F
 use Rattle.tdb_open.specs.declared.halt.Halt.{Halt}
@@ -136,7 +136,18 @@ opened_as (Some h) reply e old new other (heard_nothing (inr is) same) = cc
 opened_as (Some h) reply e old new other (heard_halt halt is opened) = absurd (halt_no_reply halt reply is)
 opened_as (Some h) reply e old new other (heard_more o mid counted opened told) = heard_more o mid counted opened (subst (λ l. ToldFor e [] mid l) (sym told) (told_none e mid other))
 
+pub opened_below_as : (limit : ℕ) (held : Option History) (reply : Reply) (e : Ending) (old new : List Logged) → (e ≡ E.LogFault → ⊥) → PrintHeard limit held (E.Replied reply) old new → PrintHeard limit held e old new
+opened_below_as limit None reply e old new other heard = (heard.0, other)
+opened_below_as limit (Some h) reply e old new other (heard_nothing (inl is) same) = cc
+opened_below_as limit (Some h) reply e old new other (heard_nothing (inr is) same) = cc
+opened_below_as limit (Some h) reply e old new other (heard_halt halt is opened) = absurd (halt_no_reply halt reply is)
+opened_below_as limit (Some h) reply e old new other (heard_more o mid counted opened told) = heard_more o mid counted opened (subst (λ l. ToldFor e [] mid l) (sym told) (told_none e mid other))
+
 -- want of memory before a file is opened tells nothing of it
+pub print_wanting : (limit : ℕ) (held : Option History) (logs : List Logged) → PrintHeard limit held E.NoMemory logs logs
+print_wanting limit None logs = (refl, λ is. cc)
+print_wanting limit (Some h) logs = heard_nothing (inr refl) refl
+
 pub open_wants : (held : Option History) (logs : List Logged) → OpenHeard held E.NoMemory logs logs
 open_wants None logs = (refl, λ is. cc)
 open_wants (Some h) logs = heard_nothing (inr refl) refl
@@ -198,11 +209,8 @@ task_unheard (Read look) name held logs = of (held name)
     of None = (refl, λ is. cc)
     of (Some h) = heard_nothing (inr refl) refl
 task_unheard Rescue name held logs = (refl, λ is. cc)
-task_unheard (Print printout limit) name held logs = of (held name)
-  where
-    of : (o : Option History) → PrintHeard limit o E.NoMemory logs logs
-    of None = (refl, λ is. cc)
-    of (Some h) = heard_nothing (inr refl) refl
+task_unheard (Print printout limit) name held logs = print_wanting limit (held name) logs
+task_unheard (Repack limit) name held logs = print_wanting limit (held name) logs
 task_unheard (Create form) name held logs = (refl, λ is. cc)
 task_unheard (Restore limit) name held logs = (refl, λ is. cc)
 task_unheard (Backup more suffix) name held logs = inl ((λ is. cc), open_wants (held name) logs)

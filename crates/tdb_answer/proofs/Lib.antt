@@ -10,6 +10,8 @@ pub mod Looking
 pub mod Printing
 pub mod Rescuing
 pub mod BackingUp
+pub mod Rewriting
+pub mod Repacking
 pub mod OneAnswer
 pub mod Copies
 pub mod Verifying

@@ -11,7 +11,7 @@ use Rattle.tdb_space.proofs.OpeningFault.OneFault.{one_opening, never_both_ways}
 use Rattle.tdb_cmdline.specs.declared.act.Act.{Act}
 use Rattle.tdb_cmdline.specs.declared.look.Look.{Look}
 use Rattle.tdb_cmdline.specs.declared.ask.Task.{Task}
-use Rattle.tdb_cmdline.specs.declared.ask.Task.TheVariants.{Create, On, Read, Rescue, Print, Restore, Backup, Verify, Turns, Session, Generate}
+use Rattle.tdb_cmdline.specs.declared.ask.Task.TheVariants.{Create, On, Read, Rescue, Print, Repack, Restore, Backup, Verify, Turns, Session, Generate}
 use Rattle.tdb_answer.specs.declared.ending.Ending.{Ending}
 use Rattle.tdb_answer.specs.declared.ending.Ending.TheVariants.{Refused}
 use Rattle.tdb_open.specs.declared.halt.Refusal.{Refusal}
@@ -112,7 +112,7 @@ below_one limit img r s (inl p) (inr q) = absurd (omega (arith, p.1, q.0))
 below_one limit img r s (inr p) (inl q) = absurd (omega (arith, q.1, p.0))
 below_one limit img r s (inr p) (inr q) = refusal_one img r s p.1 q.1
 
-below_opened : (limit : ℕ) (img : List ℕ) (r : Refusal) → length img ≤ limit → CanOpen img → IsRefusedBelow limit img r → ⊥
+pub below_opened : (limit : ℕ) (img : List ℕ) (r : Refusal) → length img ≤ limit → CanOpen img → IsRefusedBelow limit img r → ⊥
 below_opened limit img r within can (inl p) = absurd (omega (arith, p.1, within))
 below_opened limit img r within can (inr p) = not_both img r can p.1
 
@@ -182,6 +182,8 @@ task_one Rescue name None x y p q = p ∙ sym q
 task_one Rescue name (Some h) x y p q = rescue_one (seen h) x y p q
 task_one (Print printout limit) name None x y p q = p ∙ sym q
 task_one (Print printout limit) name (Some h) x y p q = print_one limit (seen h) x y p q
+task_one (Repack limit) name None x y p q = p ∙ sym q
+task_one (Repack limit) name (Some h) x y p q = p.refused ∙ ap Refused (below_one limit (seen h) p.refusal q.refusal p.right q.right) ∙ sym q.refused
 task_one (Create form) name None x y p q = making_one form x y p q
 task_one (Create form) name (Some h) x y p q = p ∙ sym q
 task_one (Restore limit) name None x y p q = absurd p

@@ -10,7 +10,7 @@ use Rattle.tdb_space.specs.Opening.{Opens}
 use Rattle.tdb_cmdline.specs.declared.act.Act.{Act}
 use Rattle.tdb_cmdline.specs.declared.look.Look.{Look}
 use Rattle.tdb_cmdline.specs.declared.ask.Task.{Task}
-use Rattle.tdb_cmdline.specs.declared.ask.Task.TheVariants.{Create, On, Read, Rescue, Print, Restore, Backup, Verify, Turns, Session, Generate}
+use Rattle.tdb_cmdline.specs.declared.ask.Task.TheVariants.{Create, On, Read, Rescue, Print, Repack, Restore, Backup, Verify, Turns, Session, Generate}
 use Rattle.tdb_cmdline.specs.declared.lines.create.NewFile.{NewFile}
 use Rattle.tdb_answer.specs.declared.ending.Ending.{Ending}
 use Rattle.tdb_answer.specs.declared.ending.Ending.TheVariants.{Replied, Refused, Missing, There, Usage, DeviceFault, InputFault, Malformed, NoMemory, LogFault}
@@ -20,6 +20,7 @@ use Rattle.tdb_open.specs.declared.halt.Refusal.{Refusal}
 use Rattle.tdb_open.specs.declared.halt.Refusal.TheVariants.{TooLong, Header, Corrupt, NeedsRecovery}
 use Rattle.tdb_open.specs.declared.limits.TheConstants.{LONGEST_FILE}
 use Rattle.tdb_cmdline.specs.Ask.{Ask}
+use Rattle.tdb_cmdline.specs.CopyNames.{temporary_name}
 use Rattle.tdb_answer.specs.Acts.{reply_of, Left}
 use Rattle.tdb_answer.specs.Ending.{status_of, text_of, TakesMemory, PrintedFor, Replies, Refuses, LookReplies, RefusesToRead, PrintsOpened, TaskDue, Due, TaskCause, task_due, task_failed, task_wanting, task_unlogged, CountedBy, CountedFor, CountedAsked, has_openers, asks_openers}
 use Rattle.tdb_answer.specs.Looks.{look_reply}
@@ -27,8 +28,9 @@ use Rattle.tdb_answer.specs.Printed.{TextBefore, ask_tells, IsSilent, Writes}
 use Rattle.tdb_answer.specs.Left.{ActLeaves, OnLeaves, MakingLeaves, RestoreLeaves, TaskLeaves, MayChange, SameElse, Leaving}
 use Rattle.tdb_answer.specs.Commands.Print.{PrintLeft, PrintLeaves}
 use Rattle.tdb_answer.specs.Commands.Rescue.{RescueDue}
+use Rattle.tdb_answer.specs.Commands.Repack.{RepackEnds, NotRepacked, HasRepacked, RepackStopped, RepackLeft, RepackLeaves}
 use Rattle.tdb_answer.specs.Commands.Restore.{of_input, HeardBy}
-use Rattle.tdb_answer.specs.Commands.Backup.{BackupLeaves, EndsBackup}
+use Rattle.tdb_answer.specs.Commands.Backup.{BackupLeaves, EndsBackup, IsLeftOf, IsUntaken}
 use Rattle.tdb_answer.specs.Commands.Verify.{VerifyLeaves, EndsVerify}
 use Rattle.tdb_answer.specs.Input.{Input}
 use Rattle.tdb_answer.specs.Output.{Output}
@@ -43,11 +45,11 @@ use Rattle.tdb_gen.specs.declared.summary.Summary.{Summary}
 use Rattle.tdb_gen.specs.Summary.{summary_text}
 use Rattle.tdb_answer.specs.Commands.Generate.{HasMade, GenLeaves}
 use Rattle.tdb_open.specs.Opening.{opened_bytes, OpensToRead, HeldOrUndone, SameOrUndone, UndoneIfOpen, OpenedBelow}
-use Rattle.tdb_answer.specs.Run.{Run, MayEnd, is_due, is_read, is_copied, is_verified, is_played, is_served, is_generated, call_failed, memory_wanting, log_failed, TellsFault, ActsOn, LooksInto, Rescues, PrintsOf, RefusesExactly, KeepsAll, EndsMidway, ActRun, PrintRun, MakingRun, RestoringRun, BackupRun, VerifyRun, TurnsRun, SessionRun, GeneratingRun, IsCopyName, LeavesFiles, Accounted}
-use Rattle.tdb_answer.proofs.Held.{same_or_other}
+use Rattle.tdb_answer.specs.Run.{Run, MayEnd, is_due, is_read, is_copied, is_verified, is_played, is_served, is_generated, is_repacked, call_failed, memory_wanting, log_failed, TellsFault, ActsOn, LooksInto, Rescues, PrintsOf, Repacks, RefusesExactly, KeepsAll, EndsMidway, ActRun, PrintRun, RepackRun, MakingRun, RestoringRun, BackupRun, VerifyRun, TurnsRun, SessionRun, GeneratingRun, IsCopyName, LeavesFiles, Accounted}
+use Rattle.tdb_answer.proofs.Held.{same_held, same_or_other}
 use Rattle.tdb_answer.proofs.Copies.{stopped_kept, stopped_weaker, backup_zero}
 use Rattle.tdb_answer.proofs.Verifying.{verified_zero, all_left_weaker, verify_kept}
-use Rattle.tdb_answer.proofs.OneAnswer.{due_one, below_faulty, below_three, read_faulty, read_three, unreadable_faulty, unreadable_three}
+use Rattle.tdb_answer.proofs.OneAnswer.{due_one, below_opened, below_faulty, below_three, read_faulty, read_three, unreadable_faulty, unreadable_three}
 use Rattle.tdb_open.proofs.Openings.{same_or_undone}
 
 -- the statuses of the table
@@ -223,8 +225,10 @@ asked_cause ask a held input before after e is (inl (inr (inr (inr ends)))) =
     is_served e ends.limit a.file (sym is ∙ ap (λ t. Some (record { file = a.file; task = t })) ends.serves) ends.why
 asked_cause ask a held input before after e is (inr (inr (inl ends))) =
     is_verified e ends.more ends.suffix a.file ends.text (sym is ∙ ap (λ t. Some (record { file = a.file; task = t })) ends.verifies) ends.ends
-asked_cause ask a held input before after e is (inr (inr (inr ends))) =
+asked_cause ask a held input before after e is (inr (inr (inr (inl ends)))) =
     is_generated e ends.commands ends.seed a.file (sym is ∙ ap (λ t. Some (record { file = a.file; task = t })) ends.generates) ends.none ends.ends
+asked_cause ask a held input before after e is (inr (inr (inr (inr ends)))) =
+    is_repacked e ends.limit a.file ends.was (sym is ∙ ap (λ t. Some (record { file = a.file; task = t })) ends.repacks) ends.there ends.ends
 asked_cause ask a held input before after e is (inr (inl ends)) =
     is_copied e ends.more ends.suffix a.file (sym is ∙ ap (λ t. Some (record { file = a.file; task = t })) ends.backs_up) ends.ends
 
@@ -239,6 +243,7 @@ task_copies (On act) = false
 task_copies (Read look) = false
 task_copies Rescue = false
 task_copies (Print printout limit) = false
+task_copies (Repack limit) = false
 task_copies (Create form) = false
 task_copies (Restore limit) = false
 
@@ -257,6 +262,7 @@ is_other (On act) = false
 is_other (Read look) = false
 is_other Rescue = false
 is_other (Print printout limit) = false
+is_other (Repack limit) = false
 is_other (Create form) = false
 is_other (Restore limit) = false
 
@@ -264,32 +270,70 @@ abbrev asks_other : Option Ask → Bool
 asks_other None = false
 asks_other (Some ask) = is_other ask.task
 
+-- a task that writes a file anew
+abbrev repacks : Task → Bool
+repacks (Repack limit) = true
+repacks (Verify more suffix) = false
+repacks (Turns options) = false
+repacks (Session limit) = false
+repacks (Generate commands seed) = false
+repacks (Backup more suffix) = false
+repacks (On act) = false
+repacks (Read look) = false
+repacks Rescue = false
+repacks (Print printout limit) = false
+repacks (Create form) = false
+repacks (Restore limit) = false
+
+abbrev asks_repack : Option Ask → Bool
+asks_repack None = false
+asks_repack (Some ask) = repacks ask.task
+
+-- the name and the limit of such a task
+abbrev asked_file : Option Ask → List ℕ
+asked_file None = []
+asked_file (Some ask) = ask.file
+
+abbrev task_limit : Task → ℕ
+task_limit (Repack limit) = limit
+task_limit task = 0
+
+abbrev asked_limit : Option Ask → ℕ
+asked_limit None = 0
+asked_limit (Some ask) = task_limit ask.task
+
 module _ (run : Run) (e : Ending) (cause : MayEnd run.ask run.old run.input run.faults_before run.faults_after e) (tells : Bool) (prints : Printed tells run e) where
   -- what the ending that is printed says of a status, where it is due, where a restore is asked for and no file is
-  -- there, where a backup is, and where a verification or commands of openers are and nothing is due
+  -- there, where a backup is, where a verification or commands of openers are and nothing is due, and where a file is
+  -- written anew
   abbrev Copies : Type 0 → Type 0
   Copies P = (more : List (List ℕ)) (suffix name : List ℕ) → run.ask ≡ Some (record { file = name; task = Backup more suffix }) → P
 
   abbrev Undue : Type 0 → Type 0
   Undue P = (task : Task) (name : List ℕ) → run.ask ≡ Some (record { file = name; task = task }) → is_other task ≡ true → ((x : Ending) → TaskDue task name (run.old name) x → ⊥) → P
 
-  status_where : (P : ℕ → Type 0) → (Due run.ask run.old e → P (status_of e)) → ((limit : ℕ) (name : List ℕ) → run.ask ≡ Some (record { file = name; task = Restore limit }) → run.old name ≡ None → P (status_of e)) → Copies (P (status_of e)) → Undue (P (status_of e)) → P run.status ⊎ TellsFault run.status
-  status_where P due read copies undue = of e cause prints due read copies undue
+  abbrev Anew : Type 0 → Type 0
+  Anew P = (limit : ℕ) (name : List ℕ) (h : History) → run.ask ≡ Some (record { file = name; task = Repack limit }) → run.old name ≡ Some h → RepackEnds limit (seen h) e → P
+
+  status_where : (P : ℕ → Type 0) → (Due run.ask run.old e → P (status_of e)) → ((limit : ℕ) (name : List ℕ) → run.ask ≡ Some (record { file = name; task = Restore limit }) → run.old name ≡ None → P (status_of e)) → Copies (P (status_of e)) → Undue (P (status_of e)) → Anew (P (status_of e)) → P run.status ⊎ TellsFault run.status
+  status_where P due read copies undue anew = of e cause prints due read copies undue anew
     where
       of : (x : Ending) → MayEnd run.ask run.old run.input run.faults_before run.faults_after x → Printed tells run x → (Due run.ask run.old x → P (status_of x))
-          → ((limit : ℕ) (name : List ℕ) → run.ask ≡ Some (record { file = name; task = Restore limit }) → run.old name ≡ None → P (status_of x)) → Copies (P (status_of x)) → Undue (P (status_of x)) → P run.status ⊎ TellsFault run.status
-      of x c (inr part) due read copies undue = inr (inr (inr (inl part.exits)))
-      of _ (is_due x d) (inl all) due read copies undue = inl (subst P (sym all.exits) (due d))
-      of _ (is_read x limit name asks none so) (inl all) due read copies undue = inl (subst P (sym all.exits) (read limit name asks none))
-      of _ (is_copied x more suffix name asks ends) (inl all) due read copies undue = inl (subst P (sym all.exits) (copies more suffix name asks))
-      of _ (is_verified x more suffix name text asks ends) (inl all) due read copies undue = inl (subst P (sym all.exits) (undue (Verify more suffix) name asks refl (λ y none. none)))
-      of _ (is_played x options name asks so) (inl all) due read copies undue = inl (subst P (sym all.exits) (undue (Turns options) name asks refl (λ y none. none)))
-      of _ (is_served x limit name asks so) (inl all) due read copies undue = inl (subst P (sym all.exits) (undue (Session limit) name asks refl (λ y none. none)))
-      of _ (is_generated x commands seed name asks none so) (inl all) due read copies undue =
+          → ((limit : ℕ) (name : List ℕ) → run.ask ≡ Some (record { file = name; task = Restore limit }) → run.old name ≡ None → P (status_of x)) → Copies (P (status_of x)) → Undue (P (status_of x))
+          → ((limit : ℕ) (name : List ℕ) (h : History) → run.ask ≡ Some (record { file = name; task = Repack limit }) → run.old name ≡ Some h → RepackEnds limit (seen h) x → P (status_of x)) → P run.status ⊎ TellsFault run.status
+      of x c (inr part) due read copies undue anew = inr (inr (inr (inl part.exits)))
+      of _ (is_due x d) (inl all) due read copies undue anew = inl (subst P (sym all.exits) (due d))
+      of _ (is_read x limit name asks none so) (inl all) due read copies undue anew = inl (subst P (sym all.exits) (read limit name asks none))
+      of _ (is_copied x more suffix name asks ends) (inl all) due read copies undue anew = inl (subst P (sym all.exits) (copies more suffix name asks))
+      of _ (is_verified x more suffix name text asks ends) (inl all) due read copies undue anew = inl (subst P (sym all.exits) (undue (Verify more suffix) name asks refl (λ y none. none)))
+      of _ (is_played x options name asks so) (inl all) due read copies undue anew = inl (subst P (sym all.exits) (undue (Turns options) name asks refl (λ y none. none)))
+      of _ (is_served x limit name asks so) (inl all) due read copies undue anew = inl (subst P (sym all.exits) (undue (Session limit) name asks refl (λ y none. none)))
+      of _ (is_generated x commands seed name asks none so) (inl all) due read copies undue anew =
           inl (subst P (sym all.exits) (undue (Generate commands seed) name asks refl (λ y due. subst (λ o. TaskDue (Generate commands seed) name o y) none due)))
-      of _ (call_failed a asks rose) (inl all) due read copies undue = inr (inl all.exits)
-      of _ memory_wanting (inl all) due read copies undue = inr (inr (inl all.exits))
-      of _ (log_failed a asks) (inl all) due read copies undue = inr (inr (inr (inr all.exits)))
+      of _ (is_repacked x limit name h asks there ends) (inl all) due read copies undue anew = inl (subst P (sym all.exits) (anew limit name h asks there ends))
+      of _ (call_failed a asks rose) (inl all) due read copies undue anew = inr (inl all.exits)
+      of _ memory_wanting (inl all) due read copies undue anew = inr (inr (inl all.exits))
+      of _ (log_failed a asks) (inl all) due read copies undue anew = inr (inr (inr (inr all.exits)))
 
   -- what is due is what is answered
   pub exactly : (x : Ending) → Due run.ask run.old x → (run.status ≡ status_of x) ⊎ TellsFault run.status
@@ -297,27 +341,44 @@ module _ (run : Run) (e : Ending) (cause : MayEnd run.ask run.old run.input run.
       (λ limit name asks none. absurd (subst (λ o. TaskDue (Restore limit) name o x) none (subst (λ a. Due a run.old x) asks due)))
       (λ more suffix name asks. absurd (subst (λ a. Due a run.old x) asks due))
       (λ task name asks openers undue. absurd (undue x (subst (λ a. Due a run.old x) asks due)))
+      (λ limit name h asks there ends.
+      (let refused : Refuses limit (seen h) x = subst (λ o. TaskDue (Repack limit) name o x) there (subst (λ a. Due a run.old x) asks due) in
+      absurd (below_opened limit (seen h) refused.refusal ends.within ends.can_open refused.right)))
 
   -- the status of a task that ends as is due to what is held at its name, where no call fails and memory suffices
-  status_due : (P : ℕ → Type 0) (task : Task) (name : List ℕ) → run.ask ≡ Some (record { file = name; task = task }) → reads_input task ≡ false → task_copies task ≡ false → is_other task ≡ false
+  status_due : (P : ℕ → Type 0) (task : Task) (name : List ℕ) → run.ask ≡ Some (record { file = name; task = task }) → reads_input task ≡ false → task_copies task ≡ false → is_other task ≡ false → repacks task ≡ false
       → (TaskDue task name (run.old name) e → P (status_of e)) → P run.status ⊎ TellsFault run.status
-  status_due P task name asks unread alone closed due = status_where P (λ d. due (subst (λ a. Due a run.old e) asks d))
+  status_due P task name asks unread alone closed stays due = status_where P (λ d. due (subst (λ a. Due a run.old e) asks d))
       (λ limit other restores none. absurd (false≢true (sym unread ∙ ap ask_reads (sym asks ∙ restores))))
       (λ more suffix other copies. absurd (false≢true (sym alone ∙ ap asks_copies (sym asks ∙ copies))))
       (λ other file also openers undue. absurd (false≢true (sym closed ∙ ap asks_other (sym asks ∙ also) ∙ openers)))
+      (λ limit other h also there ends. absurd (false≢true (sym stays ∙ ap asks_repack (sym asks ∙ also))))
 
   -- so that of an act and of a look
   act_status : (P : ℕ → Type 0) (act : Act) (name : List ℕ) (h : History) → ActsOn run act name h → (Replies act (seen h) e ⊎ Refuses act.limit (seen h) e → P (status_of e)) → P run.status ⊎ TellsFault run.status
-  act_status P act name h acts due = status_due P (On act) name acts.asks refl refl refl (λ d. due (subst (λ o. TaskDue (On act) name o e) acts.there d))
+  act_status P act name h acts due = status_due P (On act) name acts.asks refl refl refl refl (λ d. due (subst (λ o. TaskDue (On act) name o e) acts.there d))
 
   look_status : (P : ℕ → Type 0) (look : Look) (name : List ℕ) (h : History) → LooksInto run look name h → (LookReplies look (seen h) e ⊎ RefusesToRead (seen h) e → P (status_of e)) → P run.status ⊎ TellsFault run.status
-  look_status P look name h into due = status_due P (Read look) name into.asks refl refl refl (λ d. due (subst (λ o. TaskDue (Read look) name o e) into.there d))
+  look_status P look name h into due = status_due P (Read look) name into.asks refl refl refl refl (λ d. due (subst (λ o. TaskDue (Read look) name o e) into.there d))
 
   rescue_status : (P : ℕ → Type 0) (name : List ℕ) (h : History) → Rescues run name h → (RescueDue (seen h) e → P (status_of e)) → P run.status ⊎ TellsFault run.status
-  rescue_status P name h of due = status_due P Rescue name of.asks refl refl refl (λ d. due (subst (λ o. TaskDue Rescue name o e) of.there d))
+  rescue_status P name h of due = status_due P Rescue name of.asks refl refl refl refl (λ d. due (subst (λ o. TaskDue Rescue name o e) of.there d))
 
   print_status : (P : ℕ → Type 0) (printout : Printout) (limit : ℕ) (name : List ℕ) (h : History) → PrintsOf run printout limit name h → (PrintsOpened limit (seen h) e ⊎ Refuses limit (seen h) e → P (status_of e)) → P run.status ⊎ TellsFault run.status
-  print_status P printout limit name h of due = status_due P (Print printout limit) name of.asks refl refl refl (λ d. due (subst (λ o. TaskDue (Print printout limit) name o e) of.there d))
+  print_status P printout limit name h of due = status_due P (Print printout limit) name of.asks refl refl refl refl (λ d. due (subst (λ o. TaskDue (Print printout limit) name o e) of.there d))
+
+  -- and that of a file that is written anew
+  repack_status : (P : ℕ → Type 0) (limit : ℕ) (name : List ℕ) (h : History) → Repacks run limit name h → (Refuses limit (seen h) e → P (status_of e)) → (RepackEnds limit (seen h) e → P (status_of e)) → P run.status ⊎ TellsFault run.status
+  repack_status P limit name h of due ends = status_where P (λ d. due (subst (λ o. TaskDue (Repack limit) name o e) of.there (subst (λ a. Due a run.old e) of.asks d)))
+      (λ other file restores none. absurd (false≢true (ap ask_reads (sym of.asks ∙ restores))))
+      (λ more suffix file copies. absurd (false≢true (ap asks_copies (sym of.asks ∙ copies))))
+      (λ task file also openers undue. absurd (false≢true (ap asks_other (sym of.asks ∙ also) ∙ openers)))
+      (λ other file k also there found. ends (same_one other file k (sym (ap asked_file (sym of.asks ∙ also))) (sym (ap asked_limit (sym of.asks ∙ also))) there found))
+    where
+      same_one : (other : ℕ) (file : List ℕ) (k : History) → file ≡ name → other ≡ limit → run.old file ≡ Some k → RepackEnds other (seen k) e → RepackEnds limit (seen h) e
+      same_one other file k names limits there found =
+          let files : k ≡ h = same_held k h (run.old name) (subst (λ n. run.old n ≡ Some k) names there) of.there in
+          subst (λ (q : ℕ × History). RepackEnds q.0 (seen q.1) e) (λ j. (limits j, files j)) found
 
   -- over bytes that can be opened the status isn't 3, and over others, no more than the most, it is
   not_three : (act : Act) (h : History) → Opens (seen h) → Replies act (seen h) e ⊎ Refuses act.limit (seen h) e → status_of e ≡ 3 → ⊥
@@ -335,6 +396,15 @@ module _ (run : Run) (e : Ending) (cause : MayEnd run.ask run.old run.input run.
   print_three_due : (limit : ℕ) (h : History) → (Opens (seen h) → ⊥) → length (seen h) ≤ LONGEST_FILE → length (seen h) ≤ limit → PrintsOpened limit (seen h) e ⊎ Refuses limit (seen h) e → status_of e ≡ 3
   print_three_due limit h faulty short within (inl p) = absurd (faulty p.can_open.opens)
   print_three_due limit h faulty short within (inr p) = ap status_of p.refused ∙ below_three limit (seen h) p.refusal p.right short within
+
+  repack_not_three : (limit : ℕ) (h : History) → Opens (seen h) → Refuses limit (seen h) e → status_of e ≡ 3 → ⊥
+  repack_not_three limit h opens p is = below_faulty limit (seen h) p.refusal p.right (sym (ap status_of p.refused) ∙ is) opens
+
+  repacked_not_three : (limit : ℕ) (h : History) → RepackEnds limit (seen h) e → status_of e ≡ 3 → ⊥
+  repacked_not_three limit h p is = elim p.ends [
+    | inl done ↦ (let zero : status_of e ≡ 0 = ap status_of done in absurd (omega (arith, zero, is)))
+    | inr full ↦ reply_not full.0 3 (omega arith) (λ z. absurd (omega (arith, z))) (sym (ap status_of full.2) ∙ is)
+  ]
 
   -- the same of a look
   read_not_three : (look : Look) (h : History) → OpensToRead (seen h) → LookReplies look (seen h) e ⊎ RefusesToRead (seen h) e → status_of e ≡ 3 → ⊥
@@ -374,6 +444,9 @@ module _ (run : Run) (e : Ending) (cause : MayEnd run.ask run.old run.input run.
     rescue_exact = λ name h of faulty short. rescue_status (λ n. n ≡ 3) name h of (rescue_three_due h faulty short);
     print_only = λ printout limit name h of three opens. unless_three (print_status (λ n. n ≡ 3 → ⊥) printout limit name h of (print_not_three limit h opens)) three;
     print_exact = λ printout limit name h of faulty short within. print_status (λ n. n ≡ 3) printout limit name h of (print_three_due limit h faulty short within);
+    repack_only = λ limit name h of three opens. unless_three (repack_status (λ n. n ≡ 3 → ⊥) limit name h of (repack_not_three limit h opens) (repacked_not_three limit h)) three;
+    repack_exact = λ limit name h of faulty short within.
+        repack_status (λ n. n ≡ 3) limit name h of (λ p. ap status_of p.refused ∙ below_three limit (seen h) p.refusal p.right short within) (λ p. absurd (faulty p.can_open.opens));
   }
 
 -- an act that didn't reply that it is done left the file as it was opened
@@ -559,6 +632,94 @@ module _ (before after status : ℕ) where
   print_run limit old now InputFault out counted left = absurd left
   print_run limit old now (Malformed at) out counted left = absurd left
 
+  -- what a run leaves of a file that was to be written anew, and at the name at which that is made
+  repacked_run : (limit : ℕ) (old now : History) (made_old made_now : Option History) → Exits status (Replied Done) → HasRepacked old now made_now → RepackRun limit old made_old before after status now made_now
+  repacked_run limit old now made_old made_now out has = record {
+    done = λ is. has;
+    stopped = λ other. inr (elim (done_eight out) [ inl zero ↦ absurd (other zero) | inr eight ↦ eight ], has);
+    left = λ other. inl (inr has.1);
+  }
+    where
+      done_eight : Exits status (Replied Done) → (status ≡ 0) ⊎ (status ≡ 8)
+      done_eight (inl own) = inl own
+      done_eight (inr (inl want)) = absurd (false≢true want.1)
+      done_eight (inr (inr eight)) = inr eight
+
+  halted_run : (limit : ℕ) (old now : History) (made_old made_now : Option History) → (status ≡ 0 → ⊥) → PrintRun limit old before after status now → IsLeftOf made_old made_now ⊎ (((status ≡ 4) ⊎ (status ≡ 8)) × Rose before after) → RepackRun limit old made_old before after status now made_now
+  halted_run limit old now made_old made_now some run left = record { done = λ is. absurd (some is); stopped = λ other. inl run; left = λ other. left }
+
+  stopped_run : (limit : ℕ) (old now : History) (made_old made_now : Option History) (t : Ending) → Exits status t → CountedBy before after t → NotRepacked limit old t now made_old made_now → RepackRun limit old made_old before after status now made_now
+  stopped_run limit old now made_old made_now (Replied reply) out counted left =
+      halted_run limit old now made_old made_now (full_some out) (opened_run limit old now (reply_no_fault reply out) (inr left.3)) (inl (inr left.4))
+    where
+      full : status_of (Replied reply) ≡ 6
+      full = ap (λ r. status_of (Replied r)) left.2.2
+
+      full_some : Exits status (Replied reply) → status ≡ 0 → ⊥
+      full_some (inl own) is = absurd (omega (arith, own, full, is))
+      full_some (inr (inl want)) is = absurd (omega (arith, want.0, is))
+      full_some (inr (inr eight)) is = absurd (omega (arith, eight, is))
+  stopped_run limit old now made_old made_now (Refused r) out counted left =
+      halted_run limit old now made_old made_now (λ is. refusal_apart r out (inl is)) (opened_run limit old now (λ is. refusal_apart r out (inr is)) left.1) (inl (inl left.2))
+  stopped_run limit old now made_old made_now DeviceFault out counted left =
+      halted_run limit old now made_old made_now (fault_no_done (fault_exits out))
+      (record {
+        any = inr (counted.failed refl, left);
+        failed = λ is. left;
+        kept = λ four eight. absurd (neither 4 four eight (fault_exits out));
+        exact = λ four five eight. absurd (neither 4 four eight (fault_exits out));
+      })
+      (inr (fault_exits out, counted.failed refl))
+  stopped_run limit old now made_old made_now LogFault out counted left =
+      halted_run limit old now made_old made_now (log_apart 0 (λ z. absurd (omega (arith, z))) (λ z. absurd (omega (arith, z))) (log_exits out))
+      (opened_run limit old now (log_apart 4 (λ z. absurd (omega (arith, z))) (λ z. absurd (omega (arith, z))) (log_exits out)) left.0) (inl (inl left.1))
+  stopped_run limit old now made_old made_now NoMemory out counted left =
+      halted_run limit old now made_old made_now (λ is. memory_apart (memory_exits out) (inl is))
+      (record {
+        any = inl left.0;
+        failed = λ is. absurd (memory_apart (memory_exits out) (inr is));
+        kept = λ four eight. left.0;
+        exact = λ four five eight. absurd (neither 5 five eight (memory_exits out));
+      })
+      (inl left.1)
+  stopped_run limit old now made_old made_now (Missing name) out counted left = absurd left
+  stopped_run limit old now made_old made_now (There name) out counted left = absurd left
+  stopped_run limit old now made_old made_now Usage out counted left = absurd left
+  stopped_run limit old now made_old made_now InputFault out counted left = absurd left
+  stopped_run limit old now made_old made_now (Malformed at) out counted left = absurd left
+
+  -- a file that is there wasn't taken
+  untaken_run : (limit : ℕ) (file : List ℕ) (old : History) (made_old made_now : Option History) (t : Ending) → Exits status t → CountedBy before after t → made_now ≡ made_old → IsUntaken file (Some old) t → RepackRun limit old made_old before after status old made_now
+  untaken_run limit file old made_old made_now t out counted new (inl missing) = let both : Some old ≡ None = missing.0 in cc
+  untaken_run limit file old made_old made_now t out counted new (inr (inl is)) =
+      stopped_run limit old old made_old made_now DeviceFault (subst (Exits status) is out) (subst (CountedBy before after) is counted) (inl (inr refl))
+  untaken_run limit file old made_old made_now t out counted new (inr (inr is)) =
+      stopped_run limit old old made_old made_now NoMemory (subst (Exits status) is out) (subst (CountedBy before after) is counted) (inr refl, inl new)
+
+  abbrev LeftAnew : ℕ → History → Option History → Option History → Option History → Type 0
+  LeftAnew limit old now made_old made_now = (h : History) × (now ≡ Some h) × RepackRun limit old made_old before after status h made_now
+
+  repack_run : (limit : ℕ) (file : List ℕ) (old : History) (now made_old made_now : Option History) (t : Ending) → Exits status t → CountedBy before after t → RepackLeft limit file (Some old) now made_old made_now t → LeftAnew limit old now made_old made_now
+  repack_run limit file old now made_old made_now t out counted (inl done) =
+      let was : done.1.was ≡ old = same_held done.1.was old (Some old) done.1.there refl in (
+        done.1.is,
+        done.1.stands,
+        repacked_run limit old done.1.is made_old made_now (subst (Exits status) done.0 out) (subst (λ h. HasRepacked h done.1.is made_now) was done.1.repacked),
+      )
+  repack_run limit file old now made_old made_now t out counted (inr (inl untaken)) = (old, untaken.0, untaken_run limit file old made_old made_now t out counted untaken.1 untaken.2)
+  repack_run limit file old now made_old made_now t out counted (inr (inr halted)) =
+      let was : halted.was ≡ old = same_held halted.was old (Some old) halted.there refl in (
+        halted.is,
+        halted.stands,
+        stopped_run limit old halted.is made_old made_now t out counted (subst (λ h. NotRepacked limit h t halted.is made_old made_now) was halted.halted),
+      )
+
+  -- where no file was there
+  repack_none : (limit : ℕ) (file : List ℕ) (now made_old made_now : Option History) (t : Ending) → RepackLeft limit file None now made_old made_now t → (now ≡ None) × (made_now ≡ made_old)
+  repack_none limit file now made_old made_now t (inl done) = let both : None ≡ Some done.1.was = done.1.there in cc
+  repack_none limit file now made_old made_now t (inr (inl untaken)) = (untaken.0, untaken.1)
+  repack_none limit file now made_old made_now t (inr (inr halted)) = let both : None ≡ Some halted.was = halted.there in cc
+
   -- what a run leaves at the name of a file that was to be made
   making_run : (form : NewFile) (old now : Option History) (t : Ending) → Exits status t → CountedBy before after t → MakingLeaves form old t now → MakingRun form old before after status now
   making_run form old now (Replied reply) out counted left = record {
@@ -690,6 +851,7 @@ asked_counted tells (Some ask) before after t told counted = of ask.task counted
     of (Read look) counted = counted
     of Rescue counted = counted
     of (Print printout limit) counted = counted
+    of (Repack limit) counted = counted
     of (Create form) counted = counted
     of (Restore limit) counted = counted
     of (Backup more suffix) counted = counted
@@ -707,6 +869,7 @@ asked_failed tells (Some ask) before after t counted is none = of ask.task none 
     of (Read look) none counted = counted.failed is
     of Rescue none counted = counted.failed is
     of (Print printout limit) none counted = counted.failed is
+    of (Repack limit) none counted = counted.failed is
     of (Create form) none counted = counted.failed is
     of (Restore limit) none counted = counted.failed is
     of (Backup more suffix) none counted = counted.failed is
@@ -724,6 +887,7 @@ asked_sound tells (Some ask) before after t counted other = of ask.task counted
     of (Read look) counted = counted.sound other
     of Rescue counted = counted.sound other
     of (Print printout limit) counted = counted.sound other
+    of (Repack limit) counted = counted.sound other
     of (Create form) counted = counted.sound other
     of (Restore limit) counted = counted.sound other
     of (Backup more suffix) counted = counted.sound other
@@ -971,6 +1135,17 @@ module _ (run : Run) (logs later : List Logged) (t : Ending) (out : Exits run.st
       let at = subst (λ o. PrintLeaves limit o t (run.now name)) of.there (asked_left (Print printout limit) name of.asks) in
       (at.0, at.1, print_run run.faults_before run.faults_after run.status limit old at.0 t out counted at.2)
 
+  repacked : (limit : ℕ) (name : List ℕ) (old : History) → Repacks run limit name old
+      → (h : History) × (run.now name ≡ Some h) × RepackRun limit old (run.old (temporary_name name)) run.faults_before run.faults_after run.status h (run.now (temporary_name name))
+  repacked limit name old of =
+      repack_run run.faults_before run.faults_after run.status limit name old (run.now name) (run.old (temporary_name name)) (run.now (temporary_name name)) t out counted
+      (subst (λ o. RepackLeft limit name o (run.now name) (run.old (temporary_name name)) (run.now (temporary_name name)) t) of.there (asked_left (Repack limit) name of.asks))
+
+  unrepacked : (limit : ℕ) (name : List ℕ) → run.ask ≡ Some (record { file = name; task = Repack limit }) → run.old name ≡ None → (run.now name ≡ None) × (run.now (temporary_name name) ≡ run.old (temporary_name name))
+  unrepacked limit name asks none =
+      repack_none run.faults_before run.faults_after run.status limit name (run.now name) (run.old (temporary_name name)) (run.now (temporary_name name)) t
+      (subst (λ o. RepackLeft limit name o (run.now name) (run.old (temporary_name name)) (run.now (temporary_name name)) t) none (asked_left (Repack limit) name asks))
+
   turned : (options : Options) (name : List ℕ) (old : History) → run.ask ≡ Some (record { file = name; task = Turns options }) → run.old name ≡ Some old
       → (h : History) × (run.now name ≡ Some h) × TurnsRun options run.input run.output old run.faults_before run.faults_after run.status h logs later
   turned options name old asks there =
@@ -1009,6 +1184,19 @@ module _ (run : Run) (logs later : List Logged) (t : Ending) (out : Exits run.st
     | inr same ↦ inl (at.1 ∙ ap Some same)
   ]
 
+  repack_kept : KeepsAll run.status → (limit : ℕ) (name : List ℕ) → run.ask ≡ Some (record { file = name; task = Repack limit }) → (old : Option History) → run.old name ≡ old → HeldOrUndone old (run.now name)
+  repack_kept keeps limit name asks None there = inl (unrepacked limit name asks there).0
+  repack_kept keeps limit name asks (Some old) there =
+      let at = repacked limit name old (record { asks = asks; there = there }) in
+      elim (at.2.stopped keeps.0) [
+        | inl stopped ↦
+            elim (stopped.kept keeps.1 keeps.2) [
+              | inl undone ↦ inr (old, at.0, refl, at.1, undone)
+              | inr same ↦ inl (at.1 ∙ ap Some same)
+            ]
+        | inr eight ↦ absurd (keeps.2 eight.0)
+      ]
+
   -- what is held at the name of a task, where the status tells of no change
   turns_kept : KeepsAll run.status → (run.status ≡ 5 → ⊥) → (options : Options) (name : List ℕ) (old : History) (at : (h : History) × (run.now name ≡ Some h) × TurnsLeft options old t h) → HeldOrUndone (Some old) (run.now name)
   turns_kept keeps other options name old at = elim (turns_same run.faults_before run.faults_after run.status options old at.0 t out keeps other at.2) [
@@ -1042,6 +1230,9 @@ module _ (run : Run) (logs later : List Logged) (t : Ending) (out : Exits run.st
   task_kept keeps (Read look) file name asks midway same at copy = at_name name file (inl at) (same name)
   task_kept keeps Rescue file name asks midway same at copy = at_name name file (inl at) (same name)
   task_kept keeps (Print printout limit) file name asks midway same at copy = at_name name file (print_kept keeps limit file (run.old file) at) (same name)
+  task_kept keeps (Repack limit) file name asks midway same at copy =
+      at_name name file (repack_kept keeps limit file asks (run.old file) refl)
+      (λ other. same name (λ may. elim may [ inl own ↦ other own | inr made ↦ copy (inr (limit, file, refl, made)) ]))
   task_kept keeps (Create form) file name asks midway same at copy =
       at_name name file
       (elim ((making_run run.faults_before run.faults_after run.status form (run.old file) (run.now file) t out counted at).kept keeps) [
@@ -1058,10 +1249,10 @@ module _ (run : Run) (logs later : List Logged) (t : Ending) (out : Exits run.st
       (same name)
   task_kept keeps (Backup more suffix) file name asks midway same at copy =
       stopped_kept suffix run.old run.now _ (λ broken. elim broken.0 [ inl four ↦ keeps.1 four | inr eight ↦ keeps.2 eight ]) (file ∷ more)
-      ((backup_run run.faults_before run.faults_after run.status suffix (file ∷ more) run.old run.now t out counted (λ done. silent (inr (inl done))) at).stopped keeps.0) name (λ among. copy (more, suffix, file, inl (refl, among))) (same name)
+      ((backup_run run.faults_before run.faults_after run.status suffix (file ∷ more) run.old run.now t out counted (λ done. silent (inr (inl done))) at).stopped keeps.0) name (λ among. copy (inl (more, suffix, file, inl (refl, among)))) (same name)
   task_kept keeps (Verify more suffix) file name asks midway same at copy =
       verify_kept suffix run.old run.now _ (λ broken. elim broken.0 [ inl four ↦ keeps.1 four | inr eight ↦ keeps.2 eight ]) (file ∷ more)
-      ((verify_run run.faults_before run.faults_after run.status suffix (file ∷ more) run.old run.now t out counted (λ done. silent (inr (inr (inl done)))) at).stopped keeps.0) name (λ among. copy (more, suffix, file, inr (refl, among))) (same name)
+      ((verify_run run.faults_before run.faults_after run.status suffix (file ∷ more) run.old run.now t out counted (λ done. silent (inr (inr (inl done)))) at).stopped keeps.0) name (λ among. copy (inl (more, suffix, file, inr (refl, among)))) (same name)
   task_kept keeps (Turns options) file name asks midway same at copy = at_name name file (file_kept keeps midway options file (run.old file) at) (same name)
   task_kept keeps (Session limit) file name asks midway same at copy = at_name name file (session_kept keeps limit file midway asks (run.old file) refl at) (same name)
   task_kept keeps (Generate commands seed) file name asks midway same at copy =
@@ -1092,6 +1283,8 @@ module _ (run : Run) (logs later : List Logged) (t : Ending) (out : Exits run.st
     rescued = λ name asks. asked_left Rescue name asks;
     printed = printed;
     unprinted = λ printout limit name asks none. subst (λ o. PrintLeaves limit o t (run.now name)) none (asked_left (Print printout limit) name asks);
+    repacked = repacked;
+    unrepacked = unrepacked;
     turned = turned;
     unturned = λ options name asks none. subst (λ o. TurnsLeave options o t (run.now name)) none (asked_left (Turns options) name asks);
     served = served;

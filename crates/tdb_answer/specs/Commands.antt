@@ -12,6 +12,8 @@ pub mod Create
 pub mod Dump
 pub mod Print
 pub mod Rescue
+pub mod Rewriting
+pub mod Repack
 pub mod Restore
 pub mod Backup
 pub mod Verify

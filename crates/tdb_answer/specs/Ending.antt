@@ -11,7 +11,7 @@ use Rattle.tdb_dump.specs.Line.{data_line, pair_line}
 use Rattle.tdb_cmdline.specs.declared.act.Act.{Act}
 use Rattle.tdb_cmdline.specs.declared.look.Look.{Look}
 use Rattle.tdb_cmdline.specs.declared.ask.Task.{Task}
-use Rattle.tdb_cmdline.specs.declared.ask.Task.TheVariants.{Create, On, Read, Rescue, Print, Restore, Backup, Verify, Turns, Session, Generate}
+use Rattle.tdb_cmdline.specs.declared.ask.Task.TheVariants.{Create, On, Read, Rescue, Print, Repack, Restore, Backup, Verify, Turns, Session, Generate}
 use Rattle.tdb_answer.specs.declared.ending.Ending.{Ending}
 use Rattle.tdb_answer.specs.declared.ending.Ending.TheVariants.{Replied, Refused, Missing, There, Usage, DeviceFault, InputFault, Malformed, NoMemory, LogFault}
 use Rattle.tdb_answer.specs.declared.ending.Reply.TheVariants.{Done, Value, Escaped, Dumped, Restored, Copied, Verified, KeyMissing, KeyThere, NoTransaction, Full, Number, Pair, End, Played, Closed, Generated}
@@ -131,7 +131,8 @@ MakingDue file e =
 -- look, a rescue and a printing are on a file that is there; a file is made where none is. How a restore ends where no
 -- file is depends on its input, as turns and a session do, how a backup and a verification end on all their files
 -- (`BackupEnds`, `VerifyEnds`), and how generated commands end on how they were done (`GenSo`), so none is due to what
--- is held at one name.
+-- is held at one name. Where a file that is written anew isn't refused, it depends on where its records come to lie
+-- (`RepackEnds`).
 abbrev pub TaskDue : Task → List ℕ → Option History → Ending → Type 0
 TaskDue (On act) name None e = e ≡ Missing name
 TaskDue (On act) name (Some h) e = Replies act (seen h) e ⊎ Refuses act.limit (seen h) e
@@ -141,6 +142,8 @@ TaskDue Rescue name None e = e ≡ Missing name
 TaskDue Rescue name (Some h) e = RescueDue (seen h) e
 TaskDue (Print printout limit) name None e = e ≡ Missing name
 TaskDue (Print printout limit) name (Some h) e = PrintsOpened limit (seen h) e ⊎ Refuses limit (seen h) e
+TaskDue (Repack limit) name None e = e ≡ Missing name
+TaskDue (Repack limit) name (Some h) e = Refuses limit (seen h) e
 TaskDue (Create form) name None e = MakingDue form e
 TaskDue (Create form) name (Some h) e = e ≡ There name
 TaskDue (Restore limit) name None e = ⊥
@@ -183,6 +186,7 @@ has_openers (On act) = false
 has_openers (Read look) = false
 has_openers Rescue = false
 has_openers (Print printout limit) = false
+has_openers (Repack limit) = false
 has_openers (Create form) = false
 has_openers (Restore limit) = false
 has_openers (Backup more suffix) = false
@@ -201,6 +205,7 @@ CountedFor tells (On act) before after e = CountedBy before after e
 CountedFor tells (Read look) before after e = CountedBy before after e
 CountedFor tells Rescue before after e = CountedBy before after e
 CountedFor tells (Print printout limit) before after e = CountedBy before after e
+CountedFor tells (Repack limit) before after e = CountedBy before after e
 CountedFor tells (Create form) before after e = CountedBy before after e
 CountedFor tells (Restore limit) before after e = CountedBy before after e
 CountedFor tells (Backup more suffix) before after e = CountedBy before after e

@@ -15,7 +15,7 @@ use Rattle.tdb_open.specs.declared.opening.Opened.{Opened}
 use Rattle.tdb_cmdline.specs.CopyNames.{copy_name}
 use Rattle.tdb_cmdline.specs.Ask.{Ask}
 use Rattle.tdb_cmdline.specs.declared.ask.Task.{Task}
-use Rattle.tdb_cmdline.specs.declared.ask.Task.TheVariants.{Create, On, Read, Rescue, Print, Restore, Backup, Verify, Turns, Session, Generate}
+use Rattle.tdb_cmdline.specs.declared.ask.Task.TheVariants.{Create, On, Read, Rescue, Print, Repack, Restore, Backup, Verify, Turns, Session, Generate}
 use Rattle.tdb_answer.specs.declared.ending.Ending.{Ending}
 use Rattle.tdb_answer.specs.declared.ending.Ending.TheVariants.{Replied, DeviceFault, NoMemory, LogFault}
 use Rattle.tdb_answer.specs.declared.ending.Reply.{Reply}
@@ -75,7 +75,7 @@ abbrev pub ActHeard : ℕ → Option History → Option History → Ending → L
 ActHeard limit None now e old new = NothingHeard e old new
 ActHeard limit (Some h) now e old new = ActedHeard limit (seen h) (held_length now) e old new
 
--- what they heard of a look into it, and of a printing of its pairs: its opening
+-- what they heard of a look into it, and of a printing of what it holds or where it is written anew: its opening
 abbrev pub LookHeard : Option History → Ending → List Logged → List Logged → Type 0
 LookHeard None e old new = NothingHeard e old new
 LookHeard (Some h) e old new = FileHeard (seen h) (ReadingHeard (seen h)) e (ToldFor e []) old new
@@ -125,6 +125,7 @@ TaskHeard (On act) name held now e old new = ActHeard act.limit (held name) (now
 TaskHeard (Read look) name held now e old new = LookHeard (held name) e old new
 TaskHeard Rescue name held now e old new = NothingHeard e old new
 TaskHeard (Print printout limit) name held now e old new = PrintHeard limit (held name) e old new
+TaskHeard (Repack limit) name held now e old new = PrintHeard limit (held name) e old new
 TaskHeard (Create form) name held now e old new = NothingHeard e old new
 TaskHeard (Restore limit) name held now e old new = NothingHeard e old new
 TaskHeard (Backup more suffix) name held now e old new = BackupHeard (name ∷ more) held e old new

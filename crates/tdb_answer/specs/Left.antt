@@ -3,7 +3,7 @@ use Rattle.std.specs.Prelude.{◌≡◌, ◌<◌, ◌⊎◌, ℕ, true, false, I
 use Rattle.tdb_disk.specs.History.{History, seen}
 use Rattle.tdb_cmdline.specs.declared.act.Act.{Act}
 use Rattle.tdb_cmdline.specs.declared.ask.Task.{Task}
-use Rattle.tdb_cmdline.specs.declared.ask.Task.TheVariants.{Create, On, Read, Rescue, Print, Restore, Backup, Verify, Turns, Session, Generate}
+use Rattle.tdb_cmdline.specs.declared.ask.Task.TheVariants.{Create, On, Read, Rescue, Print, Repack, Restore, Backup, Verify, Turns, Session, Generate}
 use Rattle.tdb_answer.specs.declared.ending.Ending.{Ending}
 use Rattle.tdb_answer.specs.declared.ending.Ending.TheVariants.{Replied, Refused, Missing, There, Usage, DeviceFault, InputFault, Malformed, NoMemory, LogFault}
 use Rattle.tdb_answer.specs.declared.ending.Reply.TheVariants.{Done, Restored}
@@ -12,11 +12,12 @@ use Rattle.tdb_cmdline.specs.declared.lines.create.NewFile.{NewFile}
 use Rattle.tdb_answer.specs.declared.commands.create.Creation as Making
 use Rattle.tdb_answer.specs.Acts.{reply_of, Left, Interrupted}
 use Rattle.tdb_cmdline.specs.Ask.{Ask}
-use Rattle.tdb_cmdline.specs.CopyNames.{IsNameAmong}
+use Rattle.tdb_cmdline.specs.CopyNames.{IsNameAmong, temporary_name}
 use Rattle.tdb_answer.specs.Commands.Backup.{BackupLeaves}
 use Rattle.tdb_open.specs.Creating.{new_length}
 use Rattle.tdb_answer.specs.Commands.Create.{LeftEmpty, CreateLeaves}
 use Rattle.tdb_answer.specs.Commands.Print.{PrintLeaves}
+use Rattle.tdb_answer.specs.Commands.Repack.{RepackLeaves}
 use Rattle.tdb_answer.specs.Commands.Restore.{IsRestored}
 use Rattle.tdb_answer.specs.Commands.Session.{StaysThere}
 use Rattle.tdb_answer.specs.Commands.Turns.{TurnsLeave}
@@ -69,13 +70,14 @@ pub record RestoreLeaves (input : Input) (old : Option History) (e : Ending) (no
   pub done : status_of e ≡ 0 → HasRestored input old now
   pub there : IsSome old → now ≡ old
 
--- what a task on the file of this name leaves there, and a backup or a verification at all its names; a look and a
--- rescue leave what is there; of a session more is said with what it prints (`SessionHeld`)
+-- what a task on the file of this name leaves there, and one that writes it anew, a backup or a verification at all its
+-- names; a look and a rescue leave what is there; of a session more is said with what it prints (`SessionHeld`)
 abbrev pub TaskLeaves : Input → Task → List ℕ → (List ℕ → Option History) → Ending → (List ℕ → Option History) → Type 0
 TaskLeaves input (On act) file old e now = OnLeaves act (old file) e (now file)
 TaskLeaves input (Read look) file old e now = now file ≡ old file
 TaskLeaves input Rescue file old e now = now file ≡ old file
 TaskLeaves input (Print printout limit) file old e now = PrintLeaves limit (old file) e (now file)
+TaskLeaves input (Repack limit) file old e now = RepackLeaves limit file old e now
 TaskLeaves input (Create form) file old e now = MakingLeaves form (old file) e (now file)
 TaskLeaves input (Restore limit) file old e now = RestoreLeaves input (old file) e (now file)
 TaskLeaves input (Backup more suffix) file old e now = BackupLeaves suffix (file ∷ more) old e now
@@ -84,13 +86,14 @@ TaskLeaves input (Turns options) file old e now = TurnsLeave options (old file) 
 TaskLeaves input (Session limit) file old e now = StaysThere (old file) (now file)
 TaskLeaves input (Generate commands seed) file old e now = GenLeaves commands seed (old file) e (now file)
 
--- a task on the file of this name may change what is held at that name: there alone, or at all names of a
--- backup or a verification
+-- a task on the file of this name may change what is held at that name: there alone; or there and where it makes the
+-- file that it writes anew; or at all names of a backup or a verification
 abbrev pub MayChange : Task → List ℕ → List ℕ → Type 0
 MayChange (On act) file name = name ≡ file
 MayChange (Read look) file name = name ≡ file
 MayChange Rescue file name = name ≡ file
 MayChange (Print printout limit) file name = name ≡ file
+MayChange (Repack limit) file name = (name ≡ file) ⊎ (name ≡ temporary_name file)
 MayChange (Create form) file name = name ≡ file
 MayChange (Restore limit) file name = name ≡ file
 MayChange (Turns options) file name = name ≡ file

@@ -4,7 +4,7 @@ use Rattle.tdb_disk.specs.Count.{Rose}
 use Rattle.tdb_disk.specs.History.{History}
 use Rattle.tdb_answer.specs.declared.ending.Unprinted.{Unprinted}
 use Rattle.tdb_cmdline.specs.declared.ask.Task.{Task}
-use Rattle.tdb_cmdline.specs.declared.ask.Task.TheVariants.{Create, On, Read, Rescue, Print, Restore, Backup, Verify, Turns, Session, Generate}
+use Rattle.tdb_cmdline.specs.declared.ask.Task.TheVariants.{Create, On, Read, Rescue, Print, Repack, Restore, Backup, Verify, Turns, Session, Generate}
 use Rattle.tdb_answer.specs.declared.ending.Ending.{Ending}
 use Rattle.tdb_answer.specs.declared.ending.Ending.TheVariants.{Replied}
 use Rattle.tdb_answer.specs.declared.ending.Reply.TheVariants.{Restored, Copied, Verified, Closed}
@@ -25,6 +25,7 @@ TaskText (On act) name held e text = text ≡ []
 TaskText (Read look) name held e text = LookText look (held name) e text
 TaskText Rescue name held e text = RescueText (held name) e text
 TaskText (Print printout limit) name held e text = PrintText printout (held name) e text
+TaskText (Repack limit) name held e text = text ≡ []
 TaskText (Create form) name held e text = text ≡ []
 TaskText (Restore limit) name held e text = text ≡ []
 TaskText (Backup more suffix) name held e text = text ≡ []
@@ -45,6 +46,7 @@ task_tells (On act) files output = output
 task_tells (Read look) files output = look_tells look files output
 task_tells Rescue files output = output && files
 task_tells (Print printout limit) files output = output && files
+task_tells (Repack limit) files output = output
 task_tells (Create form) files output = output
 task_tells (Restore limit) files output = output
 task_tells (Backup more suffix) files output = output

@@ -1,11 +1,12 @@
 -- The tasks that read the input, and why tasks end.
 use Rattle.std.specs.Prelude.{◌≡◌, ◌⊎◌, ℕ, Bool, true, false, Option, None, Some, List, ◌∷◌}
-use Rattle.tdb_disk.specs.History.{History}
+use Rattle.tdb_disk.specs.History.{History, seen}
 use Rattle.tdb_cmdline.specs.declared.ask.Task.{Task}
-use Rattle.tdb_cmdline.specs.declared.ask.Task.TheVariants.{Create, On, Read, Rescue, Print, Restore, Backup, Verify, Turns, Session, Generate}
+use Rattle.tdb_cmdline.specs.declared.ask.Task.TheVariants.{Create, On, Read, Rescue, Print, Repack, Restore, Backup, Verify, Turns, Session, Generate}
 use Rattle.tdb_answer.specs.declared.ending.Ending.{Ending}
 use Rattle.tdb_cmdline.specs.Ask.{Ask}
 use Rattle.tdb_answer.specs.Commands.Backup.{BackupEnds}
+use Rattle.tdb_answer.specs.Commands.Repack.{RepackEnds}
 use Rattle.tdb_answer.specs.Commands.Restore.{ReadSo}
 use Rattle.tdb_answer.specs.Commands.Session.{ServesSo}
 use Rattle.tdb_answer.specs.Commands.Turns.{PlaysSo}
@@ -21,6 +22,7 @@ reads_input (On act) = false
 reads_input (Read look) = false
 reads_input Rescue = false
 reads_input (Print printout limit) = false
+reads_input (Repack limit) = false
 reads_input (Create form) = false
 reads_input (Restore limit) = true
 reads_input (Backup more suffix) = false
@@ -84,6 +86,14 @@ pub record EndsByCommands (task : Task) (held : Option History) (e : Ending) : T
   pub none : held ≡ None
   pub ends : GenSo commands seed e
 
+-- the task writes the file anew that is at its name, and ends so by what becomes of its pairs
+pub record EndsByPairs (task : Task) (held : Option History) (e : Ending) : Type 0 where
+  pub limit : ℕ
+  pub was : History
+  pub repacks : task ≡ Repack limit
+  pub there : held ≡ Some was
+  pub ends : RepackEnds limit (seen was) e
+
 -- why a task on the file of a name ends so, by what is held at all names
 abbrev pub AskEnds : Input → Task → List ℕ → (List ℕ → Option History) → ℕ → ℕ → Ending → Type 0
-AskEnds input task name held before after e = AskCause input task name (held name) before after e ⊎ EndsByFiles task name held e ⊎ EndsByCounts task name held e ⊎ EndsByCommands task (held name) e
+AskEnds input task name held before after e = AskCause input task name (held name) before after e ⊎ EndsByFiles task name held e ⊎ EndsByCounts task name held e ⊎ EndsByCommands task (held name) e ⊎ EndsByPairs task (held name) e

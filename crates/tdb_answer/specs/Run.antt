@@ -9,7 +9,7 @@ use Rattle.tdb_space.specs.Opening.{Opens}
 use Rattle.tdb_cmdline.specs.declared.act.Act.{Act}
 use Rattle.tdb_cmdline.specs.declared.look.Look.{Look}
 use Rattle.tdb_cmdline.specs.declared.ask.Task.{Task}
-use Rattle.tdb_cmdline.specs.declared.ask.Task.TheVariants.{Create, On, Read, Rescue, Print, Restore, Backup, Verify, Turns, Session, Generate}
+use Rattle.tdb_cmdline.specs.declared.ask.Task.TheVariants.{Create, On, Read, Rescue, Print, Repack, Restore, Backup, Verify, Turns, Session, Generate}
 use Rattle.tdb_cmdline.specs.declared.lines.create.NewFile.{NewFile}
 use Rattle.tdb_answer.specs.declared.commands.create.Creation.TheVariants.{Made, Device}
 use Rattle.tdb_answer.specs.declared.ending.Ending.{Ending}
@@ -22,8 +22,9 @@ use Rattle.tdb_answer.specs.Heard.{AskHeard}
 use Rattle.tdb_log.specs.Logs.{Logged}
 use Rattle.tdb_answer.specs.Output.{Output}
 use Rattle.tdb_answer.specs.Printed.{TextBefore, ask_tells, Writes}
-use Rattle.tdb_cmdline.specs.CopyNames.{IsForCopyAmong, IsForRestoreAmong}
-use Rattle.tdb_answer.specs.Commands.Backup.{CopiedAll, StoppedAt, BackupEnds}
+use Rattle.tdb_cmdline.specs.CopyNames.{IsForCopyAmong, IsForRestoreAmong, temporary_name}
+use Rattle.tdb_answer.specs.Commands.Backup.{CopiedAll, StoppedAt, IsLeftOf, BackupEnds}
+use Rattle.tdb_answer.specs.Commands.Repack.{RepackEnds, HasRepacked}
 use Rattle.tdb_open.specs.Creating.{new_length}
 use Rattle.tdb_answer.specs.Commands.Create.{LeftEmpty, CreateLeaves}
 use Rattle.tdb_answer.specs.Commands.Restore.{ReadSo}
@@ -75,8 +76,8 @@ run_by words old now before after input output status = record {
 -- Why a run ends so that is asked for this, or for nothing: it is due; or a restore was asked for, no file was at its
 -- name, and its input says so; or a backup or a verification was, and its files say so; or turns were, and their script
 -- and their file say so; or a session was, and its lines and its file say so; or generated commands were, no file was
--- at the name, and it is how they were done; or it is asked for something and a call failed, or a log did; or memory
--- was wanting.
+-- at the name, and it is how they were done; or a file was to be written anew, and it is what became of its pairs; or it
+-- is asked for something and a call failed, or a log did; or memory was wanting.
 pub data MayEnd (ask : Option Ask) (held : List ℕ → Option History) (input : Input) (before after : ℕ) : Ending → Type 0 where
   is_due : (e : Ending) → Due ask held e → MayEnd ask held input before after e
   is_read : (e : Ending) (limit : ℕ) (name : List ℕ) → ask ≡ Some (record { file = name; task = Restore limit }) → held name ≡ None → ReadSo input limit e → MayEnd ask held input before after e
@@ -85,6 +86,7 @@ pub data MayEnd (ask : Option Ask) (held : List ℕ → Option History) (input :
   is_played : (e : Ending) (options : Options) (name : List ℕ) → ask ≡ Some (record { file = name; task = Turns options }) → PlaysSo input options name (held name) e → MayEnd ask held input before after e
   is_served : (e : Ending) (limit : ℕ) (name : List ℕ) → ask ≡ Some (record { file = name; task = Session limit }) → ServesSo input limit name (held name) e → MayEnd ask held input before after e
   is_generated : (e : Ending) (commands seed : ℕ) (name : List ℕ) → ask ≡ Some (record { file = name; task = Generate commands seed }) → held name ≡ None → GenSo commands seed e → MayEnd ask held input before after e
+  is_repacked : (e : Ending) (limit : ℕ) (name : List ℕ) (h : History) → ask ≡ Some (record { file = name; task = Repack limit }) → held name ≡ Some h → RepackEnds limit (seen h) e → MayEnd ask held input before after e
   call_failed : (a : Ask) → ask ≡ Some a → Rose before after → MayEnd ask held input before after DeviceFault
   memory_wanting : MayEnd ask held input before after NoMemory
   log_failed : (a : Ask) → ask ≡ Some a → MayEnd ask held input before after LogFault
@@ -125,7 +127,12 @@ pub record PrintsOf (run : Run) (printout : Printout) (limit : ℕ) (name : List
   pub asks : run.ask ≡ Some (record { file = name; task = Print printout limit })
   pub there : run.old name ≡ Some old
 
--- Of an act, a look or a printing status 3 comes only over a file whose bytes can't be opened, in the way that the
+-- the words ask to write a file anew that is there and has this history
+pub record Repacks (run : Run) (limit : ℕ) (name : List ℕ) (old : History) : Type 0 where
+  pub asks : run.ask ≡ Some (record { file = name; task = Repack limit })
+  pub there : run.old name ≡ Some old
+
+-- Of an act, a look, a printing or a file that is to be written anew status 3 comes only over a file whose bytes can't be opened, in the way that the
 -- command opens it, and of a rescue only over one that has no header without a fault; and over each that is no longer
 -- than the longest and than it may be nothing else comes, unless a call or a log failed or memory was wanting.
 pub record RefusesExactly (run : Run) : Type 0 where
@@ -137,6 +144,8 @@ pub record RefusesExactly (run : Run) : Type 0 where
   pub rescue_exact : (name : List ℕ) (h : History) → Rescues run name h → (HeaderOk (seen h) → ⊥) → length (seen h) ≤ LONGEST_FILE → (run.status ≡ 3) ⊎ TellsFault run.status
   pub print_only : (printout : Printout) (limit : ℕ) (name : List ℕ) (h : History) → PrintsOf run printout limit name h → run.status ≡ 3 → Opens (seen h) → ⊥
   pub print_exact : (printout : Printout) (limit : ℕ) (name : List ℕ) (h : History) → PrintsOf run printout limit name h → (Opens (seen h) → ⊥) → length (seen h) ≤ LONGEST_FILE → length (seen h) ≤ limit → (run.status ≡ 3) ⊎ TellsFault run.status
+  pub repack_only : (limit : ℕ) (name : List ℕ) (h : History) → Repacks run limit name h → run.status ≡ 3 → Opens (seen h) → ⊥
+  pub repack_exact : (limit : ℕ) (name : List ℕ) (h : History) → Repacks run limit name h → (Opens (seen h) → ⊥) → length (seen h) ≤ LONGEST_FILE → length (seen h) ≤ limit → (run.status ≡ 3) ⊎ TellsFault run.status
 
 -- a status after which every file is as before or undone, whatever the words ask for, but for copies and restored
 -- files, and for turns and sessions that ended in their midst (`EndsMidway`): it says neither that it was done, nor
@@ -176,6 +185,14 @@ pub record PrintRun (limit : ℕ) (old : History) (before after status : ℕ) (n
   pub failed : status ≡ 4 → LookBroken old now
   pub kept : status ≢ 4 → status ≢ 8 → SameOrUndone old now
   pub exact : status ≢ 4 → status ≢ 5 → status ≢ 8 → OpenedBelow limit old now
+
+-- What a run leaves of a file that is to be written anew, which held this, and at the name at which that is made. Where
+-- the status isn't 0 the file is what its opening leaves, unless the output failed behind all, and what stood at the
+-- other name is removed at most, unless a call failed.
+pub record RepackRun (limit : ℕ) (old : History) (made_old : Option History) (before after status : ℕ) (now : History) (made_now : Option History) : Type 0 where
+  pub done : status ≡ 0 → HasRepacked old now made_now
+  pub stopped : status ≢ 0 → PrintRun limit old before after status now ⊎ ((status ≡ 8) × HasRepacked old now made_now)
+  pub left : status ≢ 0 → IsLeftOf made_old made_now ⊎ (((status ≡ 4) ⊎ (status ≡ 8)) × Rose before after)
 
 -- what a run leaves at the name of a file that is to be made, in the same way
 pub record MakingRun (file : NewFile) (old : Option History) (before after status : ℕ) (now : Option History) : Type 0 where
@@ -244,11 +261,14 @@ pub record GeneratingRun (commands seed : ℕ) (output : Output) (old : Option H
   pub failed : status ≡ 4 → Rose before after
   pub kept : status ≢ 0 → status ≢ 4 → (now ≡ old) ⊎ ((status ≡ 8) × (Rose before after ⊎ ((s : Summary) × HasMade commands seed s old now)))
 
--- a name is one for a copy, where a backup is asked for, or one at which a file is restored, where a verification is
+-- a name is one for a copy, where a backup is asked for, or one at which a file is restored, where a verification is, or
+-- the one at which a file is made, where it is to be written anew
 abbrev pub IsCopyName : Option Ask → List ℕ → Type 0
-IsCopyName ask name = (more : List (List ℕ)) × (suffix : List ℕ) × (file : List ℕ)
+IsCopyName ask name =
+    ((more : List (List ℕ)) × (suffix : List ℕ) × (file : List ℕ)
     × (((ask ≡ Some (record { file = file; task = Backup more suffix })) × IsForCopyAmong suffix (file ∷ more) name)
-    ⊎ ((ask ≡ Some (record { file = file; task = Verify more suffix })) × IsForRestoreAmong (file ∷ more) name))
+    ⊎ ((ask ≡ Some (record { file = file; task = Verify more suffix })) × IsForRestoreAmong (file ∷ more) name)))
+    ⊎ ((limit : ℕ) × (file : List ℕ) × (ask ≡ Some (record { file = file; task = Repack limit })) × (name ≡ temporary_name file))
 
 -- What a run leaves of the files: at most those that it is asked for change, as the status says.
 pub record LeavesFiles (run : Run) (logs later : List Logged) : Type 0 where
@@ -269,6 +289,10 @@ pub record LeavesFiles (run : Run) (logs later : List Logged) : Type 0 where
   pub printed : (printout : Printout) (limit : ℕ) (name : List ℕ) (old : History) → PrintsOf run printout limit name old
       → (h : History) × (run.now name ≡ Some h) × PrintRun limit old run.faults_before run.faults_after run.status h
   pub unprinted : (printout : Printout) (limit : ℕ) (name : List ℕ) → run.ask ≡ Some (record { file = name; task = Print printout limit }) → run.old name ≡ None → run.now name ≡ None
+  pub repacked : (limit : ℕ) (name : List ℕ) (old : History) → Repacks run limit name old
+      → (h : History) × (run.now name ≡ Some h) × RepackRun limit old (run.old (temporary_name name)) run.faults_before run.faults_after run.status h (run.now (temporary_name name))
+  pub unrepacked : (limit : ℕ) (name : List ℕ) → run.ask ≡ Some (record { file = name; task = Repack limit }) → run.old name ≡ None
+      → (run.now name ≡ None) × (run.now (temporary_name name) ≡ run.old (temporary_name name))
   pub turned : (options : Options) (name : List ℕ) (old : History) → run.ask ≡ Some (record { file = name; task = Turns options }) → run.old name ≡ Some old
       → (h : History) × (run.now name ≡ Some h) × TurnsRun options run.input run.output old run.faults_before run.faults_after run.status h logs later
   pub unturned : (options : Options) (name : List ℕ) → run.ask ≡ Some (record { file = name; task = Turns options }) → run.old name ≡ None → run.now name ≡ None

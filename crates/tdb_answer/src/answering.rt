@@ -25,6 +25,7 @@ use crate::commands::backup::back_up;
 use crate::commands::create::create_file;
 use crate::commands::generate::generate_file;
 use crate::commands::print::print_on_file;
+use crate::commands::repack::repack;
 use crate::commands::rescue::rescue_on_file;
 use crate::commands::restore::restore_file;
 use crate::commands::session::session_on_file;
@@ -75,6 +76,7 @@ pub fn answer_ask<F: Files, S: Source, K: Sink, L: Logs>(
         Task::Print { printout, limit } => {
             print_on_file(alloc, name, *printout, *limit, files, output, logs)
         }
+        Task::Repack { limit } => Ok(repack(alloc, name, *limit, files, logs)),
         Task::Create(file) => {
             let creation = create_file(alloc, name, *file, files);
             Ok(Ending::made(alloc, name, creation))

@@ -11,7 +11,7 @@ use Rattle.tdb_cmdline.specs.declared.act.Act.{Act}
 use Rattle.tdb_cmdline.specs.declared.act.Verb.{Verb}
 use Rattle.tdb_cmdline.specs.declared.act.Verb.TheVariants.{Show, Insert, Store, Delete, Erase, Check, First, Next, TransactionStart, TransactionCommit, TransactionCancel, Quit}
 use Rattle.tdb_cmdline.specs.declared.ask.Task.{Task}
-use Rattle.tdb_cmdline.specs.declared.ask.Task.TheVariants.{Create, On, Read, Rescue, Print, Restore, Backup, Verify, Turns, Session, Generate}
+use Rattle.tdb_cmdline.specs.declared.ask.Task.TheVariants.{Create, On, Read, Rescue, Print, Repack, Restore, Backup, Verify, Turns, Session, Generate}
 use Rattle.tdb_cmdline.specs.declared.ask.Ask as C
 use Rattle.tdb_cmdline.specs.declared.options.Command.{Command}
 use Rattle.tdb_cmdline.specs.declared.options.Command.TheVariants as command
@@ -45,6 +45,11 @@ on_file limit verb = On (record { verb = verb; limit = limit })
 abbrev pub print_file : ℕ → Printout → Task
 print_file limit printout = Print printout limit
 
+-- such a file is written anew, where the command has no arguments
+abbrev pub repack_of : ℕ → List (List ℕ) → Option Task
+repack_of limit [] = Some (Repack limit)
+repack_of limit (word ∷ rest) = None
+
 -- the commands of `tool`, each by its name with what its arguments ask for, where the file may have so many bytes
 abbrev pub tools : ℕ → List (List ℕ × (List (List ℕ) → Option Task))
 tools limit =
@@ -67,6 +72,7 @@ tools limit =
     ∷ (codes "info", λ arguments. option_map (print_file limit) (print_of Summary arguments))
     ∷ (codes "list", λ arguments. option_map (print_file limit) (print_of Chains arguments))
     ∷ (codes "free", λ arguments. option_map (print_file limit) (print_of FreeList arguments))
+    ∷ (codes "repack", λ arguments. repack_of limit arguments)
     ∷ (codes "create", λ arguments. option_map Create (create_of limit arguments))
     ∷ []
 
@@ -160,6 +166,7 @@ TaskFits file (On act) = ActFits act
 TaskFits file (Read look) = LookFits look
 TaskFits file Rescue = Unit {0}
 TaskFits file (Print printout limit) = limit ≤ LONGEST_FILE
+TaskFits file (Repack limit) = limit ≤ LONGEST_FILE
 TaskFits file (Create new) = (0 < new.form.size) × (new.limit ≤ LONGEST_FILE)
 TaskFits file (Restore limit) = limit ≤ LONGEST_FILE
 TaskFits file (Backup more suffix) = BackupFits suffix (file ∷ more)

@@ -3,7 +3,7 @@
 ghost use Rattle.std.specs.Prelude.{◌≡◌, ◌≤◌, ℕ, List, map, string_bytes, IfOk, IfSome};
 ghost use Rattle.std.specs.Option.{option_map};
 ghost use Rattle.tdb_cmdline.specs.Acts.{print_of};
-ghost use Rattle.tdb_cmdline.specs.Ask.{asked, asks, on_file, print_file, tool_task, ask_of, words_ask, tool_asks, dump_asks, restore_asks, backup_asks, turns_asks, gen_asks, task_of as task_asked, VerbFits, TaskFits};
+ghost use Rattle.tdb_cmdline.specs.Ask.{asked, asks, on_file, print_file, repack_of, tool_task, ask_of, words_ask, tool_asks, dump_asks, restore_asks, backup_asks, turns_asks, gen_asks, task_of as task_asked, VerbFits, TaskFits};
 
 use crate::act::{Act, Verb};
 use crate::lines::create::NewFile;
@@ -34,6 +34,9 @@ pub enum Task {
 
     /// To print this of it, where it is there and may have `limit` bytes.
     Print { printout: Printout, limit: u64 },
+
+    /// To write it anew, where it is there. It may have `limit` bytes, before and after.
+    Repack { limit: u64 },
 
     /// To make it, of the pairs on the input. It may be up to `limit` bytes long.
     Restore { limit: u64 },
@@ -91,6 +94,18 @@ impl Task {
         }
     }
 
+    /// To write a file anew that is there and may have so many bytes, where the command has no arguments.
+    fn repack(limit: u64, arguments: &[Text]) -> Option<Task>
+        requires limit { limit ≤ 4294963200 }
+        ensures read { result ≡ repack_of limit arguments.now }
+        ensures fits { IfSome result (λ task. (file : List ℕ) → TaskFits file task) }
+    {
+        match arguments {
+            [] => Some(Task::Repack { limit }),
+            _ => None,
+        }
+    }
+
     /// What the command of this name asks for with these arguments, where the file may have so many bytes.
     fn named(
         alloc: Global,
@@ -131,6 +146,7 @@ impl Task {
             "info" => Ok(Task::print(limit, Printout::Summary, arguments)),
             "list" => Ok(Task::print(limit, Printout::Chains, arguments)),
             "free" => Ok(Task::print(limit, Printout::FreeList, arguments)),
+            "repack" => Ok(Task::repack(limit, arguments)),
             "create" => match NewFile::of(limit, arguments) {
                 Some(new) => Ok(Some(Task::Create(new))),
                 None => Ok(None),

@@ -7,7 +7,7 @@ use Rattle.std.proofs.Math.Seq.{take-append-add, take-append_seam}
 use Rattle.tdb_disk.specs.Count.{Rose, HasCause}
 use Rattle.tdb_disk.specs.History.{History}
 use Rattle.tdb_cmdline.specs.declared.ask.Task.{Task}
-use Rattle.tdb_cmdline.specs.declared.ask.Task.TheVariants.{Create, On, Read, Rescue, Print, Restore, Backup, Verify, Turns, Session, Generate}
+use Rattle.tdb_cmdline.specs.declared.ask.Task.TheVariants.{Create, On, Read, Rescue, Print, Repack, Restore, Backup, Verify, Turns, Session, Generate}
 use Rattle.tdb_answer.specs.declared.ending.Ending.{Ending}
 use Rattle.tdb_answer.specs.declared.ending.Ending.TheVariants.{Replied, Refused, Missing, There, Usage, DeviceFault, InputFault, Malformed, NoMemory, LogFault}
 use Rattle.tdb_answer.specs.declared.ending.Unprinted.{Unprinted}
@@ -114,6 +114,7 @@ task_wanting (Generate commands seed) name held written t takes text = text
 task_wanting (Read look) name held written t takes text = look_wanting look (held name) written t takes text
 task_wanting Rescue name held written t takes text = rescue_wanting (held name) written t takes text
 task_wanting (Print printout limit) name held written t takes text = print_wanting printout (held name) written t takes text
+task_wanting (Repack limit) name held written t takes text = text
 
 text_wanting : (ask : Option Ask) (held : List ℕ → Option History) (written : List ℕ) (t : Ending) → TakesMemory t → TextBefore ask held t written → TextBefore ask held NoMemory written
 text_wanting None held written t takes text = text
@@ -153,6 +154,7 @@ task_nothing (Generate commands seed) name held = refl
 task_nothing (Read look) name held = look_nothing look (held name)
 task_nothing Rescue name held = rescue_nothing (held name)
 task_nothing (Print printout limit) name held = print_nothing printout (held name)
+task_nothing (Repack limit) name held = refl
 
 pub nothing_before : (ask : Option Ask) (held : List ℕ → Option History) → TextBefore ask held NoMemory []
 nothing_before None held = refl
@@ -179,6 +181,7 @@ task_heard (Session limit) files output told = and_left output files told
 task_heard (Generate commands seed) files output told = told
 task_heard Rescue files output told = and_left output files told
 task_heard (Print printout limit) files output told = and_left output files told
+task_heard (Repack limit) files output told = told
 task_heard (Read (Value key)) files output told = told
 task_heard (Read Dump) files output told = and_left output files told
 

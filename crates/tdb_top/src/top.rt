@@ -83,7 +83,7 @@ fn finish<K: Sink>(alloc: Global, answered: &Result<Ending, Unprinted>, output: 
 /// | Status | Meaning | Printed |
 /// |---|---|---|
 /// | 0 | the value of the key is shown | `data(N) = "TEXT"` |
-/// | 0 | the key is added, stored or deleted, all keys are taken out, or the file is made | `ok` |
+/// | 0 | the key is added, stored or deleted, all keys are taken out, or the file is made, or written anew | `ok` |
 /// | 0 | the file is accepted, and has `N` keys | `number N` |
 /// | 0 | all pairs are printed, or all keys | their dump text, a line for each key |
 /// | 0 | it is told what the file holds | its numbers, its chains and their records, or its free records |
@@ -131,6 +131,10 @@ fn finish<K: Sink>(alloc: Global, answered: &Result<Ending, Unprinted>, output: 
 /// The commands `tool FILE info`, `tool FILE list` and `tool FILE free` open the file as a show does. They read the
 /// header of each record, or of each free one, and print what the check counted with the bytes of all keys and values,
 /// the chains with their records, or the free records. A list holds one chain at a time.
+///
+/// The command `tool FILE repack` opens the file as a show does, makes a new file of its form at FILE and `.tmp`, adds
+/// each pair without looking its key up, writes the sequence number, syncs, and renames the new file to FILE: time is
+/// linear in the file. It holds one pair, and 4 bytes for each record.
 ///
 /// The command `restore FILE` makes a file as `create` does, reads the input in pieces of 64 KiB, adds each pair
 /// without looking its key up, and syncs: time is linear in the text and in the file. It holds all keys, so as to

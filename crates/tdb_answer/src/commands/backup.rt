@@ -95,7 +95,7 @@ fn copy_file<D: Disk>(
 }
 
 /// Takes a new file of this name, after it removed the one that stands there, if there is one.
-fn take_anew<F: Files>(alloc: Global, name: &str, files: &mut F) -> Result<F::D, Ending>
+pub(crate) fn take_anew<F: Files>(alloc: Global, name: &str, files: &mut F) -> Result<F::D, Ending>
     requires free { F.is_taken files.old name.now ≡ false }
     ensures empty { IfOk result (λ disk. F.D.size disk ≡ 0) }
     ensures sound { IfOk result (λ disk. F.D.faults disk ≡ 0) }

@@ -7,7 +7,9 @@ use Rattle.tdb_answer.specs.Ending.{MadeSo}
 use Rattle.tdb_answer.specs.Input.{input_by}
 use Rattle.tdb_answer.specs.Reads.{AskEnds, GenCause}
 use Rattle.tdb_answer.specs.Left.{TaskLeaves}
+use Rattle.tdb_cmdline.specs.CopyNames.{temporary_name}
 use Rattle.tdb_answer.specs.Commands.Backup.{BackupCause}
+use Rattle.tdb_answer.specs.Commands.Repack.{RepackLeaves}
 use Rattle.tdb_cmdline.specs.declared.ask.Task.TheVariants.{Turns, Verify}
 use Rattle.tdb_answer.specs.declared.ending.Ending.TheVariants.{Replied}
 use Rattle.tdb_answer.specs.declared.ending.Reply.TheVariants.{Played}
@@ -20,6 +22,7 @@ use Rattle.tdb_answer.specs.Stops.{StopsScripted}
 use Rattle.tdb_answer.proofs.Looking.{began_as}
 use Rattle.tdb_answer.proofs.Acting.{made_cause, made_left, backup_ends, verify_ends, gen_ends}
 use Rattle.tdb_answer.proofs.Unlogged.{made_unlogged}
+use Rattle.tdb_answer.proofs.Repacking.{repack_ends}
 use Rattle.tdb_answer.proofs.answering.answer_ask.Goals as goal
 
 -- why a file was made, or wasn't
@@ -83,6 +86,29 @@ returns-in-Verify-clause-began g c =
     (λ told. began_as (VerifyText c.as_str-in-Verify.result.now (c.as_str-name.result.now ∷ c.as_slice-in-Verify.result.now) held) (TaskText (Verify c.in-Verify.more c.in-Verify.suffix) name held) before now r
     (λ e text is. subst (λ (q : List ℕ × (List ℕ × List (List ℕ))). VerifyText q.0 (q.1.0 ∷ q.1.1) held e text) (λ j. (c.as_str-in-Verify.ensures j, (c.as_str-name.ensures.value j, c.as_slice-in-Verify.ensures j))) is)
     (c.verify.ensures.began told))
+
+-- why a file was written anew, or wasn't
+pub returns-in-Repack-clause-cause : goal.returns-in-Repack-clause-cause
+returns-in-Repack-clause-cause g c told =
+    let held = g.F.Files.held c.args.files.now in
+    let given = g.F.Files.held c.repack.new.files in
+    let name = string_bytes c.args.ask.now.file in
+    let limit = c.in-Repack.limit in
+    let e = c.repack.result in
+    repack_ends (input_by g.S.Source.tells (g.S.Source.left c.args.input.now) (g.S.Source.faults c.args.input.now) (g.S.Source.faults c.args.input.now)) c.args.ask.now.task limit name held
+    (g.F.Files.faults c.args.files.now) (g.F.Files.faults c.repack.new.files) c.in-Repack.is e (given name) (held (temporary_name name)) (given (temporary_name name))
+    (subst (λ n. RepackLeaves limit n held e given) c.as_str-name.ensures.value (c.repack.ensures.left told)) c.repack.ensures.counted
+
+-- and what is left at its names
+pub returns-in-Repack-clause-left : goal.returns-in-Repack-clause-left
+returns-in-Repack-clause-left g c told =
+    let held = g.F.Files.held c.args.files.now in
+    let given = g.F.Files.held c.repack.new.files in
+    let name = string_bytes c.args.ask.now.file in
+    let limit = c.in-Repack.limit in
+    let e = c.repack.result in
+    subst (λ task. TaskLeaves (input_by g.S.Source.tells (g.S.Source.left c.args.input.now) (g.S.Source.faults c.args.input.now) (g.S.Source.faults c.args.input.now)) task name held e given) (sym c.in-Repack.is)
+    (subst (λ n. RepackLeaves limit n held e given) c.as_str-name.ensures.value (c.repack.ensures.left told))
 
 -- why generated commands ended so
 pub returns-in-Generate-clause-cause : goal.returns-in-Generate-clause-cause
