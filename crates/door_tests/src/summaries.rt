@@ -144,7 +144,11 @@ pub(crate) fn failing_growth(alloc: Global) -> Result<Option<&'static str>, Allo
         ("its free records", "tool f.tdb free", "free 696 5288\n"),
         ("a repack", "tool f.tdb repack", "ok\n"),
         ("its numbers then", "tool f.tdb info", REPACKED),
-        ("its free records then", "tool f.tdb free", "free 696 1192\n"),
+        (
+            "its free records then",
+            "tool f.tdb free",
+            "free 696 1192\n",
+        ),
     ] {
         let logs = &mut Vec::new(alloc);
         let (found, bytes) = answer(alloc, &mut files, words, b"", &Nothing, logs)?;

@@ -21,6 +21,7 @@ const PAGE: &str = "tdb: look into, change, check and copy files of Samba's triv
   tdb restore FILE           make a file of the text that a dump printed, from standard input
   tdb backup FILE ..         copy files; -s SUFFIX names the copies, in the place of .bak
   tdb backup -v FILE ..      verify files, and put copies in the place of damaged ones
+  tdb convert FILE NEW       make a file of the pairs of another, as with other chains; man tdb-convert
   tdb turns FILE             let several openers of a file take turns, by a script on standard input
   tdb gen N SEED FILE        make a file by N commands that follow from SEED
   tdb help, tdb --version    print this page, or the version
@@ -40,7 +41,9 @@ tdb tool FILE repack            the file is written anew, without the space that
 const ALONE: [&str; 5] = ["create", "info", "list", "free", "repack"];
 
 /// The names of the commands.
-const COMMANDS: [&str; 7] = ["tool", "dump", "restore", "backup", "turns", "gen", "help"];
+const COMMANDS: [&str; 8] = [
+    "tool", "dump", "restore", "backup", "convert", "turns", "gen", "help",
+];
 
 /// What a person asks for.
 #[derive(Clone, Copy, Debug, PartialEq, Eq)]

@@ -84,7 +84,7 @@ enum Shown {
 /// terminal nothing is, whose lines it would stand among.
 fn shown_of(rt: &HostRuntime, words: &[String]) -> Option<Shown> {
     match words.first()?.as_str() {
-        "backup" => Some(Shown::Files),
+        "backup" | "convert" => Some(Shown::Files),
         "tool" if words.last()?.as_str() == "repack" => Some(Shown::Files),
         "restore" => Some(Shown::Input),
         "dump" if !rt.stdout().is_terminal() => Some(Shown::Output),

@@ -12,7 +12,7 @@ use Rattle.tdb_cmdline.specs.declared.act.Verb.TheVariants.{Show, Insert, Store,
 use Rattle.tdb_steps.specs.Wiped.{at_end}
 use Rattle.tdb_open.specs.declared.halt.Refusal.TheVariants.{TooLong}
 use Rattle.tdb_cmdline.specs.declared.ask.Task.{Task}
-use Rattle.tdb_cmdline.specs.declared.ask.Task.TheVariants.{Create, On, Read, Rescue, Print, Repack, Restore, Backup, Verify, Turns, Session, Generate}
+use Rattle.tdb_cmdline.specs.declared.ask.Task.TheVariants.{Create, On, Read, Rescue, Print, Repack, Restore, Backup, Verify, Convert, Turns, Session, Generate}
 use Rattle.tdb_cmdline.specs.declared.lines.create.NewFile.{NewFile}
 use Rattle.tdb_answer.specs.declared.commands.create.Creation as Making
 use Rattle.tdb_answer.specs.declared.ending.Ending.{Ending}
@@ -174,6 +174,7 @@ task_wants input (Read look) file held = refl
 task_wants input Rescue file held = refl
 task_wants input (Print printout limit) file held = print_wants limit (held file)
 task_wants input (Repack limit) file held = repack_wants limit file held
+task_wants input (Convert new made prefix) file held = (refl, inl (refl, inr (inr refl)))
 task_wants input (Create form) file held = refl
 task_wants input (Restore limit) file held = record { left = inl refl; done = λ is. absurd (omega (arith, is)); there = λ some. refl }
 task_wants input (Backup more suffix) file held = record {

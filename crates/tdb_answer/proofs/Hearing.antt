@@ -12,7 +12,7 @@ use Rattle.tdb_log.specs.declared.notice.Notice.TheVariants.{Grew}
 use Rattle.tdb_cmdline.specs.Ask.{Ask}
 use Rattle.tdb_cmdline.specs.CopyNames.{copy_name, IsNameAmong}
 use Rattle.tdb_cmdline.specs.declared.ask.Task.{Task}
-use Rattle.tdb_cmdline.specs.declared.ask.Task.TheVariants.{Create, On, Read, Rescue, Print, Repack, Restore, Backup, Verify, Turns, Session, Generate}
+use Rattle.tdb_cmdline.specs.declared.ask.Task.TheVariants.{Create, On, Read, Rescue, Print, Repack, Restore, Backup, Verify, Convert, Turns, Session, Generate}
 use Rattle.tdb_open.specs.declared.halt.Fault.{Fault}
 use Rattle.tdb_open.specs.declared.halt.Fault.TheVariants as F
 use Rattle.tdb_open.specs.declared.halt.Halt.{Halt}
@@ -32,7 +32,7 @@ use Rattle.tdb_answer.specs.Commands.Session.{SessionHeard, served_halt}
 use Rattle.tdb_answer.specs.Commands.Turns.{TurnsHeard, turned_nothing}
 use Rattle.tdb_answer.specs.Commands.Verify.{tells_fault, IsKnown}
 use Rattle.tdb_answer.specs.Ending.{Untaken, status_of, of_halt}
-use Rattle.tdb_answer.specs.Heard.{FileHeard, heard_nothing, heard_halt, heard_more, growth, ToldFor, GrowthHeard, ActedHeard, ActHeard, LookHeard, PrintHeard, OpenHeard, BackupHeard, CountHeard, VerifyHeard, count_ending, TaskHeard, AskHeard}
+use Rattle.tdb_answer.specs.Heard.{FileHeard, heard_nothing, heard_halt, heard_more, growth, ToldFor, GrowthHeard, ActedHeard, ActHeard, LookHeard, PrintHeard, ConvertHeard, OpenHeard, BackupHeard, CountHeard, VerifyHeard, count_ending, TaskHeard, AskHeard}
 use Rattle.tdb_answer.proofs.Copies.{Held}
 use Rattle.tdb_answer.proofs.Unlogged.{untaken_unlogged}
 use Rattle.tdb_answer.proofs.Verifying.{unverified_some}
@@ -100,6 +100,10 @@ module _ (name : List ℕ) (refusal : TakeRefusal) (e : Ending) (logs : List Log
   look_untaken None gone = (refl, untaken_unlogged name refusal e untaken)
   look_untaken (Some h) gone = untaken_heard _ _ _ h gone
 
+  pub convert_untaken : (limit : ℕ) (held : Option History) → (refusal ≡ Take.Missing → held ≡ None) → ConvertHeard limit held e logs logs
+  convert_untaken limit None gone = (refl, untaken_unlogged name refusal e untaken)
+  convert_untaken limit (Some h) gone = untaken_heard _ _ _ h gone
+
   pub print_untaken : (limit : ℕ) (held : Option History) → (refusal ≡ Take.Missing → held ≡ None) → PrintHeard limit held e logs logs
   print_untaken limit None gone = (refl, untaken_unlogged name refusal e untaken)
   print_untaken limit (Some h) gone = untaken_heard _ _ _ h gone
@@ -143,7 +147,22 @@ opened_below_as limit (Some h) reply e old new other (heard_nothing (inr is) sam
 opened_below_as limit (Some h) reply e old new other (heard_halt halt is opened) = absurd (halt_no_reply halt reply is)
 opened_below_as limit (Some h) reply e old new other (heard_more o mid counted opened told) = heard_more o mid counted opened (subst (λ l. ToldFor e [] mid l) (sym told) (told_none e mid other))
 
+pub converted_as : (limit : ℕ) (held : Option History) (reply : Reply) (e : Ending) (old new : List Logged) → (e ≡ E.LogFault → ⊥) → ConvertHeard limit held (E.Replied reply) old new → ConvertHeard limit held e old new
+converted_as limit None reply e old new other heard = (heard.0, other)
+converted_as limit (Some h) reply e old new other (heard_nothing (inl is) same) = cc
+converted_as limit (Some h) reply e old new other (heard_nothing (inr is) same) = cc
+converted_as limit (Some h) reply e old new other (heard_halt halt is opened) = absurd (halt_no_reply halt reply is)
+converted_as limit (Some h) reply e old new other (heard_more o mid counted opened told) = heard_more o mid counted opened (subst (λ l. ToldFor e [] mid l) (sym told) (told_none e mid other))
+
 -- want of memory before a file is opened tells nothing of it
+pub look_wanting : (held : Option History) (logs : List Logged) → LookHeard held E.NoMemory logs logs
+look_wanting None logs = (refl, λ is. cc)
+look_wanting (Some h) logs = heard_nothing (inr refl) refl
+
+pub convert_wanting : (limit : ℕ) (held : Option History) (logs : List Logged) → ConvertHeard limit held E.NoMemory logs logs
+convert_wanting limit None logs = (refl, λ is. cc)
+convert_wanting limit (Some h) logs = heard_nothing (inr refl) refl
+
 pub print_wanting : (limit : ℕ) (held : Option History) (logs : List Logged) → PrintHeard limit held E.NoMemory logs logs
 print_wanting limit None logs = (refl, λ is. cc)
 print_wanting limit (Some h) logs = heard_nothing (inr refl) refl
@@ -203,14 +222,11 @@ task_unheard (On act) name held logs = of (held name)
     of : (o : Option History) → ActHeard act.limit o o E.NoMemory logs logs
     of None = (refl, λ is. cc)
     of (Some h) = heard_nothing (inr refl) refl
-task_unheard (Read look) name held logs = of (held name)
-  where
-    of : (o : Option History) → LookHeard o E.NoMemory logs logs
-    of None = (refl, λ is. cc)
-    of (Some h) = heard_nothing (inr refl) refl
+task_unheard (Read look) name held logs = look_wanting (held name) logs
 task_unheard Rescue name held logs = (refl, λ is. cc)
 task_unheard (Print printout limit) name held logs = print_wanting limit (held name) logs
 task_unheard (Repack limit) name held logs = print_wanting limit (held name) logs
+task_unheard (Convert new made prefix) name held logs = convert_wanting made.limit (held name) logs
 task_unheard (Create form) name held logs = (refl, λ is. cc)
 task_unheard (Restore limit) name held logs = (refl, λ is. cc)
 task_unheard (Backup more suffix) name held logs = inl ((λ is. cc), open_wants (held name) logs)

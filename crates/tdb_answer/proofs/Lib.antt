@@ -12,6 +12,7 @@ pub mod Rescuing
 pub mod BackingUp
 pub mod Rewriting
 pub mod Repacking
+pub mod Converting
 pub mod OneAnswer
 pub mod Copies
 pub mod Verifying

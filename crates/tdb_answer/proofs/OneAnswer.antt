@@ -11,7 +11,7 @@ use Rattle.tdb_space.proofs.OpeningFault.OneFault.{one_opening, never_both_ways}
 use Rattle.tdb_cmdline.specs.declared.act.Act.{Act}
 use Rattle.tdb_cmdline.specs.declared.look.Look.{Look}
 use Rattle.tdb_cmdline.specs.declared.ask.Task.{Task}
-use Rattle.tdb_cmdline.specs.declared.ask.Task.TheVariants.{Create, On, Read, Rescue, Print, Repack, Restore, Backup, Verify, Turns, Session, Generate}
+use Rattle.tdb_cmdline.specs.declared.ask.Task.TheVariants.{Create, On, Read, Rescue, Print, Repack, Restore, Backup, Verify, Convert, Turns, Session, Generate}
 use Rattle.tdb_answer.specs.declared.ending.Ending.{Ending}
 use Rattle.tdb_answer.specs.declared.ending.Ending.TheVariants.{Refused}
 use Rattle.tdb_open.specs.declared.halt.Refusal.{Refusal}
@@ -21,7 +21,7 @@ use Rattle.tdb_cmdline.specs.Ask.{Ask}
 use Rattle.tdb_answer.specs.Ending.{status_of, Replies, Refuses, LookReplies, RefusesToRead, PrintsOpened, MakingDue, TaskDue, Due}
 use Rattle.tdb_answer.specs.Commands.Rescue.{CanRescue, IsUnreadable, RescueDue}
 use Rattle.tdb_cmdline.specs.declared.lines.create.NewFile.{NewFile}
-use Rattle.tdb_open.specs.Opening.{CanOpen, IsRefused, OpensToRead, CanRead, HasOpenGate, IsRefusedToRead, IsRefusedBelow}
+use Rattle.tdb_open.specs.Opening.{CanOpen, IsRefused, OpensToRead, CanRead, HasOpenGate, IsRefusedToRead, IsRefusedToReadBelow, IsRefusedBelow}
 
 -- a file is refused in one way
 refusal_one : (img : List ℕ) (r s : Refusal) → IsRefused img r → IsRefused img s → r ≡ s
@@ -173,6 +173,25 @@ rescue_one img x y (inl p) (inr q) = absurd (not_both_rescued img q.0 p.0 q.1)
 rescue_one img x y (inr p) (inl q) = absurd (not_both_rescued img p.0 q.0 p.1)
 rescue_one img x y (inr p) (inr q) = p.2 ∙ ap Refused (unreadable_one img p.0 q.0 p.1 q.1) ∙ sym q.2
 
+-- a file that may have so many bytes is refused to be read alone in one way, and not where it has no more and is opened
+read_below_one : (limit : ℕ) (img : List ℕ) (r s : Refusal) → IsRefusedToReadBelow limit img r → IsRefusedToReadBelow limit img s → r ≡ s
+read_below_one limit img r s (inl p) (inl q) = p.0 ∙ sym q.0
+read_below_one limit img r s (inl p) (inr q) = absurd (omega (arith, p.1, q.0))
+read_below_one limit img r s (inr p) (inl q) = absurd (omega (arith, p.0, q.1))
+read_below_one limit img r s (inr p) (inr q) = read_refusal_one img r s p.1 q.1
+
+pub not_read_below : (limit : ℕ) (img : List ℕ) (r : Refusal) → length img ≤ limit → CanRead img → IsRefusedToReadBelow limit img r → ⊥
+not_read_below limit img r within can (inl p) = absurd (omega (arith, p.1, within))
+not_read_below limit img r within can (inr p) = not_both_read img r can p.1
+
+pub read_below_faulty : (limit : ℕ) (img : List ℕ) (r : Refusal) → IsRefusedToReadBelow limit img r → status_of (Refused r) ≡ 3 → OpensToRead img → ⊥
+read_below_faulty limit img r (inl p) three opens = let six : status_of (Refused r) ≡ 6 = ap (λ x. status_of (Refused x)) p.0 in absurd (omega (arith, six, three))
+read_below_faulty limit img r (inr p) three opens = read_faulty img r p.1 three opens
+
+pub read_below_three : (limit : ℕ) (img : List ℕ) (r : Refusal) → IsRefusedToReadBelow limit img r → length img ≤ LONGEST_FILE → length img ≤ limit → status_of (Refused r) ≡ 3
+read_below_three limit img r (inl p) short within = absurd (omega (arith, p.1, within))
+read_below_three limit img r (inr p) short within = read_three img r p.1 short
+
 task_one : (task : Task) (name : List ℕ) (held : Option History) (x y : Ending) → TaskDue task name held x → TaskDue task name held y → x ≡ y
 task_one (On act) name None x y p q = p ∙ sym q
 task_one (On act) name (Some h) x y p q = act_one act (seen h) x y p q
@@ -182,6 +201,8 @@ task_one Rescue name None x y p q = p ∙ sym q
 task_one Rescue name (Some h) x y p q = rescue_one (seen h) x y p q
 task_one (Print printout limit) name None x y p q = p ∙ sym q
 task_one (Print printout limit) name (Some h) x y p q = print_one limit (seen h) x y p q
+task_one (Convert new made prefix) name None x y p q = p ∙ sym q
+task_one (Convert new made prefix) name (Some h) x y p q = p.refused ∙ ap Refused (read_below_one made.limit (seen h) p.refusal q.refusal p.right q.right) ∙ sym q.refused
 task_one (Repack limit) name None x y p q = p ∙ sym q
 task_one (Repack limit) name (Some h) x y p q = p.refused ∙ ap Refused (below_one limit (seen h) p.refusal q.refusal p.right q.right) ∙ sym q.refused
 task_one (Create form) name None x y p q = making_one form x y p q

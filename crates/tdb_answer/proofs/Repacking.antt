@@ -1,5 +1,5 @@
 -- What the writing of a file anew in its place gives, from what its parts gave.
-use Rattle.std.proofs.Common.{◌≡◌, ◌⊎◌, ◌≤◌, ℕ, List, [], Option, None, Some, length, refl, sym, ◌∙◌, ap, subst, inl, inr}
+use Rattle.std.proofs.Common.{◌≡◌, ◌≤◌, ℕ, List, [], Option, None, Some, length, refl, sym, ◌∙◌, ap, subst, inl, inr}
 use Rattle.std.specs.Prelude.{IsTrue, Bool, Result, Ok, Err, IfErr, false}
 use Rattle.tdb_disk.specs.Count.{Rose}
 use Rattle.tdb_disk.specs.History.{History, seen}
@@ -7,20 +7,17 @@ use Rattle.tdb_disk.specs.Names.{moved}
 use Rattle.tdb_disk.specs.declared.files.TakeRefusal.{TakeRefusal}
 use Rattle.tdb_disk.specs.declared.files.TakeRefusal.TheVariants as Take
 use Rattle.tdb_space.specs.Form.{form_of}
-use Rattle.tdb_log.specs.Logs.{Logged}
 use Rattle.tdb_cmdline.specs.declared.ask.Task.{Task}
 use Rattle.tdb_cmdline.specs.declared.ask.Task.TheVariants.{Repack}
-use Rattle.tdb_cmdline.specs.CopyNames.{temporary_name}
 use Rattle.tdb_open.specs.declared.halt.Halt.{Halt}
 use Rattle.tdb_open.specs.declared.halt.Halt.TheVariants as H
-use Rattle.tdb_open.specs.Opening.{opened_bytes, CanOpen, HaltsBelow, LeavesBelow, LookBroken, UndoneIfOpen}
+use Rattle.tdb_open.specs.Opening.{opened_bytes, CanOpen, HaltsBelow, LeavesBelow, UndoneIfOpen}
 use Rattle.tdb_open.proofs.Openings.{same_or_undone}
 use Rattle.tdb_answer.specs.declared.ending.Ending.{Ending}
 use Rattle.tdb_answer.specs.declared.ending.Ending.TheVariants as E
-use Rattle.tdb_answer.specs.declared.ending.Reply.{Reply}
 use Rattle.tdb_answer.specs.declared.ending.Reply.TheVariants.{Done}
 use Rattle.tdb_answer.specs.Commands.Backup.{IsLeftOf, IsUntaken, IsUntakenNew}
-use Rattle.tdb_answer.specs.Commands.Repack.{NewStands, NotRepacked, NewUnmade, NewHeld, RepackHalted, RepackStopped, WasRepacked, RepackLeft, RepackLeaves}
+use Rattle.tdb_answer.specs.Commands.Repack.{NewStands, NotRepacked, NewUnmade, NewHeld, RepackStopped, RepackLeft, RepackLeaves}
 use Rattle.tdb_answer.specs.Commands.Restore.{of_input}
 use Rattle.tdb_answer.specs.Commands.Rewriting.{HoldsAnew, NotWrittenTo, anew_ending}
 use Rattle.tdb_answer.specs.Ending.{Untaken, TaskCause, task_due, task_failed, task_wanting, task_unlogged, CountedBy, TaskDue, of_halt}
@@ -152,7 +149,7 @@ module _ (input : Input) (task : Task) (limit : ℕ) (name : List ℕ) (held : L
 
   halted_ends : (e : Ending) (was now : History) (made_old made_now : Option History) → held name ≡ Some was → NotRepacked limit was e now made_old made_now → (e ≡ E.DeviceFault → Rose before after) → AskEnds input task name held before after e
   halted_ends (E.Replied reply) was now made_old made_now there left rose =
-      inr (inr (inr (inr (record { limit = limit; was = was; repacks = is; there = there; ends = record { within = left.0; can_open = left.1; ends = inr (reply, left.2, refl) } }))))
+      inr (inr (inr (inr (inl (record { limit = limit; was = was; repacks = is; there = there; ends = record { within = left.0; can_open = left.1; ends = inr (reply, left.2, refl) } })))))
   halted_ends (E.Refused refusal) was now made_old made_now there left rose =
       caused (E.Refused refusal) (task_due (E.Refused refusal) (subst (λ o. TaskDue (Repack limit) name o (E.Refused refusal)) (sym there) (record { refusal = refusal; right = left.0; refused = refl })))
   halted_ends E.DeviceFault was now made_old made_now there left rose = caused E.DeviceFault (task_failed (rose refl))
@@ -166,7 +163,7 @@ module _ (input : Input) (task : Task) (limit : ℕ) (name : List ℕ) (held : L
 
   pub repack_ends : (e : Ending) (now made_old made_now : Option History) → RepackLeft limit name (held name) now made_old made_now e → CountedBy before after e → AskEnds input task name held before after e
   repack_ends e now made_old made_now (inl done) counted =
-      inr (inr (inr (inr (record { limit = limit; was = done.1.was; repacks = is; there = done.1.there; ends = record { within = done.1.within; can_open = done.1.can_open; ends = inl done.0 } }))))
+      inr (inr (inr (inr (inl (record { limit = limit; was = done.1.was; repacks = is; there = done.1.there; ends = record { within = done.1.within; can_open = done.1.can_open; ends = inl done.0 } })))))
   repack_ends e now made_old made_now (inr (inl untaken)) counted = untaken_ends e untaken.2 counted.failed
   repack_ends e now made_old made_now (inr (inr halted)) counted = halted_ends e halted.was halted.is made_old made_now halted.there halted.halted counted.failed
 

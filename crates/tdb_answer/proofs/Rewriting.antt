@@ -1,5 +1,5 @@
 -- What the writing of a file anew gives, from what its parts gave.
-use Rattle.std.proofs.Common.{◌≡◌, ◌^◌, ◌<◌, ◌≤◌, ◌+◌, ◌*◌, ◌++◌, ℕ, List, [], ◌∷◌, Option, None, Some, length, refl, sym, ◌∙◌, ap, subst, inl, inr, arith, add-zero}
+use Rattle.std.proofs.Common.{◌≡◌, ◌^◌, ◌<◌, ◌≤◌, ◌+◌, ◌*◌, ◌++◌, ℕ, List, [], ◌∷◌, Option, None, length, refl, sym, ◌∙◌, ap, subst, inl, inr, arith}
 use Rattle.std.specs.Prelude.{slice_index, false}
 use Rattle.std.proofs.lemmas.Bool.{eq-eqb}
 use Rattle.tdb_words.specs.declared.header.Header.{Header}
@@ -31,10 +31,10 @@ use Rattle.tdb_open.specs.Opening.{IsCheckedOn}
 use Rattle.tdb_open.specs.declared.creating.NewForm.{NewForm}
 use Rattle.tdb_open.specs.declared.opening.Opened.{Opened}
 use Rattle.tdb_answer.specs.declared.ending.Ending.{Ending}
-use Rattle.tdb_answer.specs.declared.ending.Ending.TheVariants.{Usage}
+use Rattle.tdb_answer.specs.declared.ending.Ending.TheVariants as E
 use Rattle.tdb_answer.specs.Commands.Backup.{of_copy}
 use Rattle.tdb_answer.specs.Commands.Restore.{of_input}
-use Rattle.tdb_answer.specs.Commands.Rewriting.{made_form, IsWrittenAnew, IsNotWritten, GotSequence, NotWrittenTo}
+use Rattle.tdb_answer.specs.Commands.Rewriting.{made_form, IsWrittenAnew, IsNotWritten, GotSequence, NotWrittenTo, EndsUnwritten}
 
 -- a file that was written anew is one with another sequence number too
 module _ (f : Form) (a b : List ℕ) (s : ButSequence a b) where
@@ -149,21 +149,31 @@ module _ (img prefix : List ℕ) (f : Form) (limit : ℕ) (now : Option History)
   pub removed_unwritten : (r : CopyRefusal) (e : Ending) → e ≡ of_copy r → IsNotWritten img prefix f limit r → NotWrittenTo img prefix f limit e now
   removed_unwritten r e is refused = subst (λ x. NotWrittenTo img prefix f limit x now) (sym is) (unwritten_removed r refused)
 
--- its ending is no usage, and tells nothing of the input
-copy_asked : (r : CopyRefusal) → of_copy r ≡ Usage → ⊥
-copy_asked C.Read is = cc
-copy_asked C.Write is = cc
-copy_asked (C.Full len need) is = cc
-copy_asked C.Memory is = cc
+-- its ending
+pub refused_unwritten : (r : CopyRefusal) (e : Ending) → e ≡ of_copy r → EndsUnwritten e
+refused_unwritten r e is = subst EndsUnwritten (sym is) (of r)
+  where
+    of : (r : CopyRefusal) → EndsUnwritten (of_copy r)
+    of C.Read = tt
+    of C.Write = tt
+    of (C.Full len need) = (len, need, refl)
+    of C.Memory = tt
 
-copy_unread : (r : CopyRefusal) → of_input (of_copy r) ≡ false
-copy_unread C.Read = refl
-copy_unread C.Write = refl
-copy_unread (C.Full len need) = refl
-copy_unread C.Memory = refl
+-- it is no usage, tells nothing of the input, and no log refuses it
+pub unwritten_asked : (e : Ending) → EndsUnwritten e → e ≡ E.Usage → ⊥
+unwritten_asked e ends is = subst EndsUnwritten is ends
 
-pub refused_asked : (r : CopyRefusal) (e : Ending) → e ≡ of_copy r → e ≡ Usage → ⊥
-refused_asked r e is usage = copy_asked r (sym is ∙ usage)
+pub unwritten_unlogged : (e : Ending) → EndsUnwritten e → e ≡ E.LogFault → ⊥
+unwritten_unlogged e ends is = subst EndsUnwritten is ends
 
-pub refused_unread : (r : CopyRefusal) (e : Ending) → e ≡ of_copy r → of_input e ≡ false
-refused_unread r e is = ap of_input is ∙ copy_unread r
+pub unwritten_unread : (e : Ending) → EndsUnwritten e → of_input e ≡ false
+unwritten_unread (E.Replied reply) ends = refl
+unwritten_unread (E.Refused refusal) ends = refl
+unwritten_unread (E.Missing name) ends = refl
+unwritten_unread (E.There name) ends = refl
+unwritten_unread E.Usage ends = refl
+unwritten_unread E.DeviceFault ends = refl
+unwritten_unread E.LogFault ends = refl
+unwritten_unread E.NoMemory ends = refl
+unwritten_unread E.InputFault ends = absurd ends
+unwritten_unread (E.Malformed at) ends = absurd ends

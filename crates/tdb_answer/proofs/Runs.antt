@@ -10,7 +10,7 @@ use Rattle.tdb_space.specs.Opening.{Opens}
 use Rattle.tdb_cmdline.specs.declared.act.Act.{Act}
 use Rattle.tdb_cmdline.specs.declared.look.Look.{Look}
 use Rattle.tdb_cmdline.specs.declared.ask.Task.{Task}
-use Rattle.tdb_cmdline.specs.declared.ask.Task.TheVariants.{Create, On, Read, Rescue, Print, Repack, Restore, Backup, Verify, Turns, Session, Generate}
+use Rattle.tdb_cmdline.specs.declared.ask.Task.TheVariants.{Create, On, Read, Rescue, Print, Repack, Restore, Backup, Verify, Convert, Turns, Session, Generate}
 use Rattle.tdb_cmdline.specs.declared.lines.create.NewFile.{NewFile}
 use Rattle.tdb_answer.specs.declared.ending.Ending.{Ending}
 use Rattle.tdb_answer.specs.declared.ending.Ending.TheVariants.{Replied, Refused, Missing, There, Usage, DeviceFault, InputFault, Malformed, NoMemory, LogFault}
@@ -22,13 +22,14 @@ use Rattle.tdb_open.specs.declared.limits.TheConstants.{LONGEST_FILE}
 use Rattle.tdb_cmdline.specs.Ask.{Ask}
 use Rattle.tdb_cmdline.specs.CopyNames.{temporary_name}
 use Rattle.tdb_answer.specs.Acts.{reply_of, Left}
-use Rattle.tdb_answer.specs.Ending.{status_of, text_of, TakesMemory, PrintedFor, Replies, Refuses, LookReplies, RefusesToRead, PrintsOpened, TaskDue, Due, TaskCause, task_due, task_failed, task_wanting, task_unlogged, CountedBy, CountedFor, CountedAsked, has_openers, asks_openers}
+use Rattle.tdb_answer.specs.Ending.{status_of, text_of, TakesMemory, PrintedFor, Replies, Refuses, LookReplies, RefusesToRead, RefusesToReadBelow, PrintsOpened, TaskDue, Due, TaskCause, task_due, task_failed, task_wanting, task_unlogged, CountedBy, CountedFor, CountedAsked, has_openers, asks_openers}
 use Rattle.tdb_answer.specs.Looks.{look_reply}
 use Rattle.tdb_answer.specs.Printed.{TextBefore, ask_tells, IsSilent, Writes}
 use Rattle.tdb_answer.specs.Left.{ActLeaves, OnLeaves, MakingLeaves, RestoreLeaves, TaskLeaves, MayChange, SameElse, Leaving}
 use Rattle.tdb_answer.specs.Commands.Print.{PrintLeft, PrintLeaves}
 use Rattle.tdb_answer.specs.Commands.Rescue.{RescueDue}
-use Rattle.tdb_answer.specs.Commands.Repack.{RepackEnds, NotRepacked, HasRepacked, RepackStopped, RepackLeft, RepackLeaves}
+use Rattle.tdb_answer.specs.Commands.Repack.{RepackEnds, NotRepacked, HasRepacked, RepackLeft}
+use Rattle.tdb_answer.specs.Commands.Convert.{ConvertEnds, ConvertLeft, ConvertLeaves, IsTooLarge, HasNoConversion}
 use Rattle.tdb_answer.specs.Commands.Restore.{of_input, HeardBy}
 use Rattle.tdb_answer.specs.Commands.Backup.{BackupLeaves, EndsBackup, IsLeftOf, IsUntaken}
 use Rattle.tdb_answer.specs.Commands.Verify.{VerifyLeaves, EndsVerify}
@@ -44,12 +45,12 @@ use Rattle.tdb_commands.specs.declared.options.Options.{Options}
 use Rattle.tdb_gen.specs.declared.summary.Summary.{Summary}
 use Rattle.tdb_gen.specs.Summary.{summary_text}
 use Rattle.tdb_answer.specs.Commands.Generate.{HasMade, GenLeaves}
-use Rattle.tdb_open.specs.Opening.{opened_bytes, OpensToRead, HeldOrUndone, SameOrUndone, UndoneIfOpen, OpenedBelow}
-use Rattle.tdb_answer.specs.Run.{Run, MayEnd, is_due, is_read, is_copied, is_verified, is_played, is_served, is_generated, is_repacked, call_failed, memory_wanting, log_failed, TellsFault, ActsOn, LooksInto, Rescues, PrintsOf, Repacks, RefusesExactly, KeepsAll, EndsMidway, ActRun, PrintRun, RepackRun, MakingRun, RestoringRun, BackupRun, VerifyRun, TurnsRun, SessionRun, GeneratingRun, IsCopyName, LeavesFiles, Accounted}
+use Rattle.tdb_open.specs.Opening.{opened_bytes, CanRead, OpensToRead, HeldOrUndone, SameOrUndone, UndoneIfOpen, OpenedBelow}
+use Rattle.tdb_answer.specs.Run.{Run, MayEnd, is_due, is_read, is_copied, is_verified, is_played, is_served, is_generated, is_repacked, is_converted, call_failed, memory_wanting, log_failed, TellsFault, ActsOn, LooksInto, Rescues, PrintsOf, Repacks, Converts, RefusesExactly, KeepsAll, EndsMidway, ActRun, PrintRun, RepackRun, MakingRun, RestoringRun, BackupRun, VerifyRun, ConvertRun, TurnsRun, SessionRun, GeneratingRun, IsCopyName, LeavesFiles, Accounted}
 use Rattle.tdb_answer.proofs.Held.{same_held, same_or_other}
 use Rattle.tdb_answer.proofs.Copies.{stopped_kept, stopped_weaker, backup_zero}
 use Rattle.tdb_answer.proofs.Verifying.{verified_zero, all_left_weaker, verify_kept}
-use Rattle.tdb_answer.proofs.OneAnswer.{due_one, below_opened, below_faulty, below_three, read_faulty, read_three, unreadable_faulty, unreadable_three}
+use Rattle.tdb_answer.proofs.OneAnswer.{due_one, below_opened, not_read_below, read_below_faulty, read_below_three, below_faulty, below_three, read_faulty, read_three, unreadable_faulty, unreadable_three}
 use Rattle.tdb_open.proofs.Openings.{same_or_undone}
 
 -- the statuses of the table
@@ -185,7 +186,7 @@ exits tells run e t printed (inr part) = inr (inr part.exits)
 exits tells run e t (inl same) (inl all) = inl (all.exits ∙ ap status_of same)
 exits tells run e t (inr want) (inl all) = inr (inl (all.exits ∙ ap status_of want.0, want.1))
 
--- a restore, a backup, a verification or a `quit` that was done has no line, and so its status is 0
+-- a restore, a backup, a verification, a conversion or a `quit` that was done has no line any more, so its status is 0
 silent_status : (t : Ending) → IsSilent t → status_of t ≡ 0
 silent_status t (inl is) = ap status_of is
 silent_status t (inr (inl is)) = ap status_of is
@@ -227,8 +228,10 @@ asked_cause ask a held input before after e is (inr (inr (inl ends))) =
     is_verified e ends.more ends.suffix a.file ends.text (sym is ∙ ap (λ t. Some (record { file = a.file; task = t })) ends.verifies) ends.ends
 asked_cause ask a held input before after e is (inr (inr (inr (inl ends)))) =
     is_generated e ends.commands ends.seed a.file (sym is ∙ ap (λ t. Some (record { file = a.file; task = t })) ends.generates) ends.none ends.ends
-asked_cause ask a held input before after e is (inr (inr (inr (inr ends)))) =
+asked_cause ask a held input before after e is (inr (inr (inr (inr (inl ends))))) =
     is_repacked e ends.limit a.file ends.was (sym is ∙ ap (λ t. Some (record { file = a.file; task = t })) ends.repacks) ends.there ends.ends
+asked_cause ask a held input before after e is (inr (inr (inr (inr (inr ends))))) =
+    is_converted e ends.made ends.prefix ends.new a.file ends.was (sym is ∙ ap (λ t. Some (record { file = a.file; task = t })) ends.converts) ends.there ends.ends
 asked_cause ask a held input before after e is (inr (inl ends)) =
     is_copied e ends.more ends.suffix a.file (sym is ∙ ap (λ t. Some (record { file = a.file; task = t })) ends.backs_up) ends.ends
 
@@ -244,6 +247,7 @@ task_copies (Read look) = false
 task_copies Rescue = false
 task_copies (Print printout limit) = false
 task_copies (Repack limit) = false
+task_copies (Convert new made prefix) = false
 task_copies (Create form) = false
 task_copies (Restore limit) = false
 
@@ -263,6 +267,7 @@ is_other (Read look) = false
 is_other Rescue = false
 is_other (Print printout limit) = false
 is_other (Repack limit) = false
+is_other (Convert new made prefix) = false
 is_other (Create form) = false
 is_other (Restore limit) = false
 
@@ -273,6 +278,7 @@ asks_other (Some ask) = is_other ask.task
 -- a task that writes a file anew
 abbrev repacks : Task → Bool
 repacks (Repack limit) = true
+repacks (Convert new made prefix) = false
 repacks (Verify more suffix) = false
 repacks (Turns options) = false
 repacks (Session limit) = false
@@ -288,6 +294,26 @@ repacks (Restore limit) = false
 abbrev asks_repack : Option Ask → Bool
 asks_repack None = false
 asks_repack (Some ask) = repacks ask.task
+
+-- and one that makes another file of its pairs
+abbrev converts : Task → Bool
+converts (Convert new made prefix) = true
+converts (Repack limit) = false
+converts (Verify more suffix) = false
+converts (Turns options) = false
+converts (Session limit) = false
+converts (Generate commands seed) = false
+converts (Backup more suffix) = false
+converts (On act) = false
+converts (Read look) = false
+converts Rescue = false
+converts (Print printout limit) = false
+converts (Create form) = false
+converts (Restore limit) = false
+
+abbrev asks_convert : Option Ask → Bool
+asks_convert None = false
+asks_convert (Some ask) = converts ask.task
 
 -- the name and the limit of such a task
 abbrev asked_file : Option Ask → List ℕ
@@ -315,25 +341,30 @@ module _ (run : Run) (e : Ending) (cause : MayEnd run.ask run.old run.input run.
   abbrev Anew : Type 0 → Type 0
   Anew P = (limit : ℕ) (name : List ℕ) (h : History) → run.ask ≡ Some (record { file = name; task = Repack limit }) → run.old name ≡ Some h → RepackEnds limit (seen h) e → P
 
-  status_where : (P : ℕ → Type 0) → (Due run.ask run.old e → P (status_of e)) → ((limit : ℕ) (name : List ℕ) → run.ask ≡ Some (record { file = name; task = Restore limit }) → run.old name ≡ None → P (status_of e)) → Copies (P (status_of e)) → Undue (P (status_of e)) → Anew (P (status_of e)) → P run.status ⊎ TellsFault run.status
-  status_where P due read copies undue anew = of e cause prints due read copies undue anew
+  abbrev Converting : Type 0 → Type 0
+  Converting P = (made : NewFile) (prefix new name : List ℕ) (h : History) → run.ask ≡ Some (record { file = name; task = Convert new made prefix }) → run.old name ≡ Some h → ConvertEnds made prefix (seen h) new (run.old new) e → P
+
+  status_where : (P : ℕ → Type 0) → (Due run.ask run.old e → P (status_of e)) → ((limit : ℕ) (name : List ℕ) → run.ask ≡ Some (record { file = name; task = Restore limit }) → run.old name ≡ None → P (status_of e)) → Copies (P (status_of e)) → Undue (P (status_of e)) → Anew (P (status_of e)) → Converting (P (status_of e)) → P run.status ⊎ TellsFault run.status
+  status_where P due read copies undue anew converting = of e cause prints due read copies undue anew converting
     where
       of : (x : Ending) → MayEnd run.ask run.old run.input run.faults_before run.faults_after x → Printed tells run x → (Due run.ask run.old x → P (status_of x))
           → ((limit : ℕ) (name : List ℕ) → run.ask ≡ Some (record { file = name; task = Restore limit }) → run.old name ≡ None → P (status_of x)) → Copies (P (status_of x)) → Undue (P (status_of x))
-          → ((limit : ℕ) (name : List ℕ) (h : History) → run.ask ≡ Some (record { file = name; task = Repack limit }) → run.old name ≡ Some h → RepackEnds limit (seen h) x → P (status_of x)) → P run.status ⊎ TellsFault run.status
-      of x c (inr part) due read copies undue anew = inr (inr (inr (inl part.exits)))
-      of _ (is_due x d) (inl all) due read copies undue anew = inl (subst P (sym all.exits) (due d))
-      of _ (is_read x limit name asks none so) (inl all) due read copies undue anew = inl (subst P (sym all.exits) (read limit name asks none))
-      of _ (is_copied x more suffix name asks ends) (inl all) due read copies undue anew = inl (subst P (sym all.exits) (copies more suffix name asks))
-      of _ (is_verified x more suffix name text asks ends) (inl all) due read copies undue anew = inl (subst P (sym all.exits) (undue (Verify more suffix) name asks refl (λ y none. none)))
-      of _ (is_played x options name asks so) (inl all) due read copies undue anew = inl (subst P (sym all.exits) (undue (Turns options) name asks refl (λ y none. none)))
-      of _ (is_served x limit name asks so) (inl all) due read copies undue anew = inl (subst P (sym all.exits) (undue (Session limit) name asks refl (λ y none. none)))
-      of _ (is_generated x commands seed name asks none so) (inl all) due read copies undue anew =
+          → ((limit : ℕ) (name : List ℕ) (h : History) → run.ask ≡ Some (record { file = name; task = Repack limit }) → run.old name ≡ Some h → RepackEnds limit (seen h) x → P (status_of x))
+          → ((made : NewFile) (prefix new name : List ℕ) (h : History) → run.ask ≡ Some (record { file = name; task = Convert new made prefix }) → run.old name ≡ Some h → ConvertEnds made prefix (seen h) new (run.old new) x → P (status_of x)) → P run.status ⊎ TellsFault run.status
+      of x c (inr part) due read copies undue anew converting = inr (inr (inr (inl part.exits)))
+      of _ (is_due x d) (inl all) due read copies undue anew converting = inl (subst P (sym all.exits) (due d))
+      of _ (is_read x limit name asks none so) (inl all) due read copies undue anew converting = inl (subst P (sym all.exits) (read limit name asks none))
+      of _ (is_copied x more suffix name asks ends) (inl all) due read copies undue anew converting = inl (subst P (sym all.exits) (copies more suffix name asks))
+      of _ (is_verified x more suffix name text asks ends) (inl all) due read copies undue anew converting = inl (subst P (sym all.exits) (undue (Verify more suffix) name asks refl (λ y none. none)))
+      of _ (is_played x options name asks so) (inl all) due read copies undue anew converting = inl (subst P (sym all.exits) (undue (Turns options) name asks refl (λ y none. none)))
+      of _ (is_served x limit name asks so) (inl all) due read copies undue anew converting = inl (subst P (sym all.exits) (undue (Session limit) name asks refl (λ y none. none)))
+      of _ (is_generated x commands seed name asks none so) (inl all) due read copies undue anew converting =
           inl (subst P (sym all.exits) (undue (Generate commands seed) name asks refl (λ y due. subst (λ o. TaskDue (Generate commands seed) name o y) none due)))
-      of _ (is_repacked x limit name h asks there ends) (inl all) due read copies undue anew = inl (subst P (sym all.exits) (anew limit name h asks there ends))
-      of _ (call_failed a asks rose) (inl all) due read copies undue anew = inr (inl all.exits)
-      of _ memory_wanting (inl all) due read copies undue anew = inr (inr (inl all.exits))
-      of _ (log_failed a asks) (inl all) due read copies undue anew = inr (inr (inr (inr all.exits)))
+      of _ (is_repacked x limit name h asks there ends) (inl all) due read copies undue anew converting = inl (subst P (sym all.exits) (anew limit name h asks there ends))
+      of _ (is_converted x made prefix new name h asks there ends) (inl all) due read copies undue anew converting = inl (subst P (sym all.exits) (converting made prefix new name h asks there ends))
+      of _ (call_failed a asks rose) (inl all) due read copies undue anew converting = inr (inl all.exits)
+      of _ memory_wanting (inl all) due read copies undue anew converting = inr (inr (inl all.exits))
+      of _ (log_failed a asks) (inl all) due read copies undue anew converting = inr (inr (inr (inr all.exits)))
 
   -- what is due is what is answered
   pub exactly : (x : Ending) → Due run.ask run.old x → (run.status ≡ status_of x) ⊎ TellsFault run.status
@@ -344,28 +375,32 @@ module _ (run : Run) (e : Ending) (cause : MayEnd run.ask run.old run.input run.
       (λ limit name h asks there ends.
       (let refused : Refuses limit (seen h) x = subst (λ o. TaskDue (Repack limit) name o x) there (subst (λ a. Due a run.old x) asks due) in
       absurd (below_opened limit (seen h) refused.refusal ends.within ends.can_open refused.right)))
+      (λ made prefix new name h asks there ends.
+      (let refused : RefusesToReadBelow made.limit (seen h) x = subst (λ o. TaskDue (Convert new made prefix) name o x) there (subst (λ a. Due a run.old x) asks due) in
+      absurd (not_read_below made.limit (seen h) refused.refusal ends.within ends.can_read refused.right)))
 
   -- the status of a task that ends as is due to what is held at its name, where no call fails and memory suffices
-  status_due : (P : ℕ → Type 0) (task : Task) (name : List ℕ) → run.ask ≡ Some (record { file = name; task = task }) → reads_input task ≡ false → task_copies task ≡ false → is_other task ≡ false → repacks task ≡ false
+  status_due : (P : ℕ → Type 0) (task : Task) (name : List ℕ) → run.ask ≡ Some (record { file = name; task = task }) → reads_input task ≡ false → task_copies task ≡ false → is_other task ≡ false → repacks task ≡ false → converts task ≡ false
       → (TaskDue task name (run.old name) e → P (status_of e)) → P run.status ⊎ TellsFault run.status
-  status_due P task name asks unread alone closed stays due = status_where P (λ d. due (subst (λ a. Due a run.old e) asks d))
+  status_due P task name asks unread alone closed stays none due = status_where P (λ d. due (subst (λ a. Due a run.old e) asks d))
       (λ limit other restores none. absurd (false≢true (sym unread ∙ ap ask_reads (sym asks ∙ restores))))
       (λ more suffix other copies. absurd (false≢true (sym alone ∙ ap asks_copies (sym asks ∙ copies))))
       (λ other file also openers undue. absurd (false≢true (sym closed ∙ ap asks_other (sym asks ∙ also) ∙ openers)))
       (λ limit other h also there ends. absurd (false≢true (sym stays ∙ ap asks_repack (sym asks ∙ also))))
+      (λ made prefix new other h also there ends. absurd (false≢true (sym none ∙ ap asks_convert (sym asks ∙ also))))
 
   -- so that of an act and of a look
   act_status : (P : ℕ → Type 0) (act : Act) (name : List ℕ) (h : History) → ActsOn run act name h → (Replies act (seen h) e ⊎ Refuses act.limit (seen h) e → P (status_of e)) → P run.status ⊎ TellsFault run.status
-  act_status P act name h acts due = status_due P (On act) name acts.asks refl refl refl refl (λ d. due (subst (λ o. TaskDue (On act) name o e) acts.there d))
+  act_status P act name h acts due = status_due P (On act) name acts.asks refl refl refl refl refl (λ d. due (subst (λ o. TaskDue (On act) name o e) acts.there d))
 
   look_status : (P : ℕ → Type 0) (look : Look) (name : List ℕ) (h : History) → LooksInto run look name h → (LookReplies look (seen h) e ⊎ RefusesToRead (seen h) e → P (status_of e)) → P run.status ⊎ TellsFault run.status
-  look_status P look name h into due = status_due P (Read look) name into.asks refl refl refl refl (λ d. due (subst (λ o. TaskDue (Read look) name o e) into.there d))
+  look_status P look name h into due = status_due P (Read look) name into.asks refl refl refl refl refl (λ d. due (subst (λ o. TaskDue (Read look) name o e) into.there d))
 
   rescue_status : (P : ℕ → Type 0) (name : List ℕ) (h : History) → Rescues run name h → (RescueDue (seen h) e → P (status_of e)) → P run.status ⊎ TellsFault run.status
-  rescue_status P name h of due = status_due P Rescue name of.asks refl refl refl refl (λ d. due (subst (λ o. TaskDue Rescue name o e) of.there d))
+  rescue_status P name h of due = status_due P Rescue name of.asks refl refl refl refl refl (λ d. due (subst (λ o. TaskDue Rescue name o e) of.there d))
 
   print_status : (P : ℕ → Type 0) (printout : Printout) (limit : ℕ) (name : List ℕ) (h : History) → PrintsOf run printout limit name h → (PrintsOpened limit (seen h) e ⊎ Refuses limit (seen h) e → P (status_of e)) → P run.status ⊎ TellsFault run.status
-  print_status P printout limit name h of due = status_due P (Print printout limit) name of.asks refl refl refl refl (λ d. due (subst (λ o. TaskDue (Print printout limit) name o e) of.there d))
+  print_status P printout limit name h of due = status_due P (Print printout limit) name of.asks refl refl refl refl refl (λ d. due (subst (λ o. TaskDue (Print printout limit) name o e) of.there d))
 
   -- and that of a file that is written anew
   repack_status : (P : ℕ → Type 0) (limit : ℕ) (name : List ℕ) (h : History) → Repacks run limit name h → (Refuses limit (seen h) e → P (status_of e)) → (RepackEnds limit (seen h) e → P (status_of e)) → P run.status ⊎ TellsFault run.status
@@ -374,11 +409,24 @@ module _ (run : Run) (e : Ending) (cause : MayEnd run.ask run.old run.input run.
       (λ more suffix file copies. absurd (false≢true (ap asks_copies (sym of.asks ∙ copies))))
       (λ task file also openers undue. absurd (false≢true (ap asks_other (sym of.asks ∙ also) ∙ openers)))
       (λ other file k also there found. ends (same_one other file k (sym (ap asked_file (sym of.asks ∙ also))) (sym (ap asked_limit (sym of.asks ∙ also))) there found))
+      (λ made prefix new file k also there found. absurd (false≢true (ap asks_convert (sym of.asks ∙ also))))
     where
       same_one : (other : ℕ) (file : List ℕ) (k : History) → file ≡ name → other ≡ limit → run.old file ≡ Some k → RepackEnds other (seen k) e → RepackEnds limit (seen h) e
       same_one other file k names limits there found =
           let files : k ≡ h = same_held k h (run.old name) (subst (λ n. run.old n ≡ Some k) names there) of.there in
           subst (λ (q : ℕ × History). RepackEnds q.0 (seen q.1) e) (λ j. (limits j, files j)) found
+
+  -- and of one of whose pairs another is made
+  convert_status : (P : ℕ → Type 0) (made : NewFile) (prefix new name : List ℕ) (h : History) → Converts run made prefix new name h → (RefusesToReadBelow made.limit (seen h) e → P (status_of e))
+      → ((other : NewFile) (front file : List ℕ) (k : History) → k ≡ h → ConvertEnds other front (seen k) file (run.old file) e → P (status_of e)) → P run.status ⊎ TellsFault run.status
+  convert_status P made prefix new name h of due ends = status_where P (λ d. due (subst (λ o. TaskDue (Convert new made prefix) name o e) of.there (subst (λ a. Due a run.old e) of.asks d)))
+      (λ other file restores none. absurd (false≢true (ap ask_reads (sym of.asks ∙ restores))))
+      (λ more suffix file copies. absurd (false≢true (ap asks_copies (sym of.asks ∙ copies))))
+      (λ task file also openers undue. absurd (false≢true (ap asks_other (sym of.asks ∙ also) ∙ openers)))
+      (λ limit file k also there found. absurd (false≢true (ap asks_repack (sym of.asks ∙ also))))
+      (λ other front file at k also there found.
+      (let names : at ≡ name = sym (ap asked_file (sym of.asks ∙ also)) in
+      ends other front file k (same_held k h (run.old name) (subst (λ n. run.old n ≡ Some k) names there) of.there) found))
 
   -- over bytes that can be opened the status isn't 3, and over others, no more than the most, it is
   not_three : (act : Act) (h : History) → Opens (seen h) → Replies act (seen h) e ⊎ Refuses act.limit (seen h) e → status_of e ≡ 3 → ⊥
@@ -405,6 +453,16 @@ module _ (run : Run) (e : Ending) (cause : MayEnd run.ask run.old run.input run.
     | inl done ↦ (let zero : status_of e ≡ 0 = ap status_of done in absurd (omega (arith, zero, is)))
     | inr full ↦ reply_not full.0 3 (omega arith) (λ z. absurd (omega (arith, z))) (sym (ap status_of full.2) ∙ is)
   ]
+
+  convert_not_three : (made : NewFile) (prefix new : List ℕ) (k : History) → ConvertEnds made prefix (seen k) new (run.old new) e → status_of e ≡ 3 → ⊥
+  convert_not_three made prefix new k p is = of p.ends
+    where
+      of : (IsSome (run.old new) × (e ≡ There new)) ⊎ ((refusal : Refusal) × IsTooLarge made (run.old new) refusal × (e ≡ Refused refusal))
+          ⊎ ((run.old new ≡ None) × (e ≡ Replied Copied)) ⊎ ((reply : Reply) × (run.old new ≡ None) × HasNoConversion made prefix (seen k) reply × (e ≡ Replied reply)) → ⊥
+      of (inl there) = let nine : status_of e ≡ 9 = ap status_of there.1 in absurd (omega (arith, nine, is))
+      of (inr (inl large)) = let six : status_of e ≡ 6 = ap status_of (large.2 ∙ ap Refused large.1.2) in absurd (omega (arith, six, is))
+      of (inr (inr (inl done))) = let zero : status_of e ≡ 0 = ap status_of done.1 in absurd (omega (arith, zero, is))
+      of (inr (inr (inr full))) = reply_not full.0 3 (omega arith) (λ z. absurd (omega (arith, z))) (sym (ap status_of full.3) ∙ is)
 
   -- the same of a look
   read_not_three : (look : Look) (h : History) → OpensToRead (seen h) → LookReplies look (seen h) e ⊎ RefusesToRead (seen h) e → status_of e ≡ 3 → ⊥
@@ -447,6 +505,15 @@ module _ (run : Run) (e : Ending) (cause : MayEnd run.ask run.old run.input run.
     repack_only = λ limit name h of three opens. unless_three (repack_status (λ n. n ≡ 3 → ⊥) limit name h of (repack_not_three limit h opens) (repacked_not_three limit h)) three;
     repack_exact = λ limit name h of faulty short within.
         repack_status (λ n. n ≡ 3) limit name h of (λ p. ap status_of p.refused ∙ below_three limit (seen h) p.refusal p.right short within) (λ p. absurd (faulty p.can_open.opens));
+    convert_only = λ made prefix new name h of three opens.
+        unless_three
+        (convert_status (λ n. n ≡ 3 → ⊥) made prefix new name h of (λ p is. read_below_faulty made.limit (seen h) p.refusal p.right (sym (ap status_of p.refused) ∙ is) opens)
+        (λ other front file k same found. convert_not_three other front file k found)) three;
+    convert_exact = λ made prefix new name h of faulty short within.
+        convert_status (λ n. n ≡ 3) made prefix new name h of (λ p. ap status_of p.refused ∙ read_below_three made.limit (seen h) p.refusal p.right short within)
+        (λ other front file k same found.
+        (let can : CanRead (seen h) = subst (λ x. CanRead (seen x)) same found.can_read in
+        absurd (faulty (record { opens = can.can_open.opens; shut = can.shut }))));
   }
 
 -- an act that didn't reply that it is done left the file as it was opened
@@ -852,6 +919,7 @@ asked_counted tells (Some ask) before after t told counted = of ask.task counted
     of Rescue counted = counted
     of (Print printout limit) counted = counted
     of (Repack limit) counted = counted
+    of (Convert new made prefix) counted = counted
     of (Create form) counted = counted
     of (Restore limit) counted = counted
     of (Backup more suffix) counted = counted
@@ -870,6 +938,7 @@ asked_failed tells (Some ask) before after t counted is none = of ask.task none 
     of Rescue none counted = counted.failed is
     of (Print printout limit) none counted = counted.failed is
     of (Repack limit) none counted = counted.failed is
+    of (Convert new made prefix) none counted = counted.failed is
     of (Create form) none counted = counted.failed is
     of (Restore limit) none counted = counted.failed is
     of (Backup more suffix) none counted = counted.failed is
@@ -888,6 +957,7 @@ asked_sound tells (Some ask) before after t counted other = of ask.task counted
     of Rescue counted = counted.sound other
     of (Print printout limit) counted = counted.sound other
     of (Repack limit) counted = counted.sound other
+    of (Convert new made prefix) counted = counted.sound other
     of (Create form) counted = counted.sound other
     of (Restore limit) counted = counted.sound other
     of (Backup more suffix) counted = counted.sound other
@@ -1033,6 +1103,64 @@ module _ (before after status : ℕ) where
   turns_same options old now Usage out keeps five left = absurd left
 
 module _ (before after status : ℕ) where
+  -- what a run leaves at the name of a file that is to be made of the pairs of another one
+  convert_same : (made : NewFile) (prefix : List ℕ) (held old now : Option History) → now ≡ old → (status ≡ 0 → ⊥) → ConvertRun made prefix held old before after status now
+  convert_same made prefix held old now same some = record { done = λ is. absurd (some is); there = λ there. same; kept = λ zero four. inl same }
+
+  convert_fault : (made : NewFile) (prefix : List ℕ) (held old now : Option History) → Exits status DeviceFault → CountedBy before after DeviceFault → (IsSome old → now ≡ old) → ConvertRun made prefix held old before after status now
+  convert_fault made prefix held old now out counted there = record {
+    done = λ is. absurd (fault_no_done before after status (fault_exits before after status out) is);
+    there = there;
+    kept = λ zero four. elim (fault_exits before after status out) [ inl is ↦ absurd (four is) | inr eight ↦ inr (eight, counted.failed refl) ];
+  }
+
+  memory_some : Exits status NoMemory → status ≡ 0 → ⊥
+  memory_some out is = memory_apart before after status (memory_exits before after status out) (inl is)
+
+  missing_some : (name : List ℕ) → Exits status (Missing name) → status ≡ 0 → ⊥
+  missing_some name (inl own) is = absurd (omega (arith, own, is))
+  missing_some name (inr (inl want)) is = absurd (omega (arith, want.0, is))
+  missing_some name (inr (inr eight)) is = absurd (omega (arith, eight, is))
+
+  there_some : (name : List ℕ) → Exits status (There name) → status ≡ 0 → ⊥
+  there_some name (inl own) is = absurd (omega (arith, own, is))
+  there_some name (inr (inl want)) is = absurd (omega (arith, want.0, is))
+  there_some name (inr (inr eight)) is = absurd (omega (arith, eight, is))
+
+  full_some : (len need : ℕ) → Exits status (Replied (Full len need)) → status ≡ 0 → ⊥
+  full_some len need (inl own) is = absurd (omega (arith, own, is))
+  full_some len need (inr (inl want)) is = absurd (omega (arith, want.0, is))
+  full_some len need (inr (inr eight)) is = absurd (omega (arith, eight, is))
+
+  convert_left : (made : NewFile) (prefix new : List ℕ) (h : History) (held old now : Option History) (t : Ending) → held ≡ Some h → Exits status t → CountedBy before after t → (t ≡ Replied Copied → status ≡ 0) → ConvertLeft made prefix (seen h) new old t now
+      → ConvertRun made prefix held old before after status now
+  convert_left made prefix new h held old now (Replied reply) there out counted silent (inl done) =
+      let zero : status ≡ 0 = silent (ap Replied done.0) in
+      record {
+        done = λ is. record { was = h; there = there; converted = done.1 };
+        there = λ some. absurd (false≢true (subst IsSome done.1.1 some));
+        kept = λ other four. absurd (other zero);
+      }
+  convert_left made prefix new h held old now (Replied reply) there out counted silent (inr full) =
+      convert_same made prefix held old now (full.3 ∙ sym full.1) (full_some full.2.0 full.2.1 (subst (λ r. Exits status (Replied r)) full.2.2 out))
+  convert_left made prefix new h held old now (Refused r) there out counted silent left = convert_same made prefix held old now left.1 (λ is. refusal_apart before after status r out (inl is))
+  convert_left made prefix new h held old now (There name) there out counted silent left = convert_same made prefix held old now left.3 (there_some name out)
+  convert_left made prefix new h held old now DeviceFault there out counted silent left = convert_fault made prefix held old now out counted left
+  convert_left made prefix new h held old now NoMemory there out counted silent left = convert_same made prefix held old now left (memory_some out)
+  convert_left made prefix new h held old now LogFault there out counted silent left =
+      convert_same made prefix held old now left (either_not before after status 10 8 0 (λ z. absurd (omega (arith, z))) (λ z. absurd (omega (arith, z))) (log_exits before after status out))
+  convert_left made prefix new h held old now (Missing name) there out counted silent left = absurd left
+  convert_left made prefix new h held old now Usage there out counted silent left = absurd left
+  convert_left made prefix new h held old now InputFault there out counted silent left = absurd left
+  convert_left made prefix new h held old now (Malformed at) there out counted silent left = absurd left
+
+  convert_run : (made : NewFile) (prefix file new : List ℕ) (held old now : Option History) (t : Ending) → Exits status t → CountedBy before after t → (t ≡ Replied Copied → status ≡ 0) → ConvertLeaves made prefix file new held old t now → ConvertRun made prefix held old before after status now
+  convert_run made prefix file new held old now t out counted silent (inl (same, inl missing)) = convert_same made prefix held old now same (missing_some file (subst (Exits status) missing.1 out))
+  convert_run made prefix file new held old now t out counted silent (inl (same, inr (inl is))) = convert_fault made prefix held old now (subst (Exits status) is out) (subst (CountedBy before after) is counted) (λ some. same)
+  convert_run made prefix file new held old now t out counted silent (inl (same, inr (inr is))) = convert_same made prefix held old now same (memory_some (subst (Exits status) is out))
+  convert_run made prefix file new held old now t out counted silent (inr left) = convert_left made prefix new left.0 held old now t left.1 out counted silent left.2
+
+module _ (before after status : ℕ) where
   -- the statuses of the endings of generated commands
   done_exits : (text : List ℕ) → Exits status (Replied (Generated text)) → (status ≡ 0) ⊎ (status ≡ 8)
   done_exits text (inl own) = inl own
@@ -1146,6 +1274,12 @@ module _ (run : Run) (logs later : List Logged) (t : Ending) (out : Exits run.st
       repack_none run.faults_before run.faults_after run.status limit name (run.now name) (run.old (temporary_name name)) (run.now (temporary_name name)) t
       (subst (λ o. RepackLeft limit name o (run.now name) (run.old (temporary_name name)) (run.now (temporary_name name)) t) none (asked_left (Repack limit) name asks))
 
+  converted : (made : NewFile) (prefix new name : List ℕ) → run.ask ≡ Some (record { file = name; task = Convert new made prefix })
+      → (run.now name ≡ run.old name) × ConvertRun made prefix (run.old name) (run.old new) run.faults_before run.faults_after run.status (run.now new)
+  converted made prefix new name asks =
+      let at = asked_left (Convert new made prefix) name asks in
+      (at.0, convert_run run.faults_before run.faults_after run.status made prefix name new (run.old name) (run.old new) (run.now new) t out counted (λ done. silent (inr (inl done))) at.1)
+
   turned : (options : Options) (name : List ℕ) (old : History) → run.ask ≡ Some (record { file = name; task = Turns options }) → run.old name ≡ Some old
       → (h : History) × (run.now name ≡ Some h) × TurnsRun options run.input run.output old run.faults_before run.faults_after run.status h logs later
   turned options name old asks there =
@@ -1233,6 +1367,16 @@ module _ (run : Run) (logs later : List Logged) (t : Ending) (out : Exits run.st
   task_kept keeps (Repack limit) file name asks midway same at copy =
       at_name name file (repack_kept keeps limit file asks (run.old file) refl)
       (λ other. same name (λ may. elim may [ inl own ↦ other own | inr made ↦ copy (inr (limit, file, refl, made)) ]))
+  task_kept keeps (Convert new made prefix) file name asks midway same at copy =
+      at_name name file (inl at.0)
+      (λ other. at_other name new (λ is. same name (λ may. elim may [ inl own ↦ other own | inr made ↦ is made ])) ((converted made prefix new file asks).1.kept keeps.0 keeps.1))
+    where
+      at_other : (name new : List ℕ) → ((name ≡ new → ⊥) → run.now name ≡ run.old name) → (run.now new ≡ run.old new) ⊎ ((run.status ≡ 8) × Rose run.faults_before run.faults_after) → run.now name ≡ run.old name
+      at_other name new apart (inr eight) = absurd (keeps.2 eight.0)
+      at_other name new apart (inl kept) = elim (same_or_other name new) [
+        | inl is ↦ subst (λ n. run.now n ≡ run.old n) (sym is) kept
+        | inr other ↦ apart other
+      ]
   task_kept keeps (Create form) file name asks midway same at copy =
       at_name name file
       (elim ((making_run run.faults_before run.faults_after run.status form (run.old file) (run.now file) t out counted at).kept keeps) [
@@ -1285,6 +1429,7 @@ module _ (run : Run) (logs later : List Logged) (t : Ending) (out : Exits run.st
     unprinted = λ printout limit name asks none. subst (λ o. PrintLeaves limit o t (run.now name)) none (asked_left (Print printout limit) name asks);
     repacked = repacked;
     unrepacked = unrepacked;
+    converted = converted;
     turned = turned;
     unturned = λ options name asks none. subst (λ o. TurnsLeave options o t (run.now name)) none (asked_left (Turns options) name asks);
     served = served;

@@ -14,6 +14,7 @@ pub mod Print
 pub mod Rescue
 pub mod Rewriting
 pub mod Repack
+pub mod Convert
 pub mod Restore
 pub mod Backup
 pub mod Verify

@@ -11,7 +11,7 @@ use Rattle.tdb_dump.specs.Line.{data_line, pair_line}
 use Rattle.tdb_cmdline.specs.declared.act.Act.{Act}
 use Rattle.tdb_cmdline.specs.declared.look.Look.{Look}
 use Rattle.tdb_cmdline.specs.declared.ask.Task.{Task}
-use Rattle.tdb_cmdline.specs.declared.ask.Task.TheVariants.{Create, On, Read, Rescue, Print, Repack, Restore, Backup, Verify, Turns, Session, Generate}
+use Rattle.tdb_cmdline.specs.declared.ask.Task.TheVariants.{Create, On, Read, Rescue, Print, Repack, Restore, Backup, Verify, Convert, Turns, Session, Generate}
 use Rattle.tdb_answer.specs.declared.ending.Ending.{Ending}
 use Rattle.tdb_answer.specs.declared.ending.Ending.TheVariants.{Replied, Refused, Missing, There, Usage, DeviceFault, InputFault, Malformed, NoMemory, LogFault}
 use Rattle.tdb_answer.specs.declared.ending.Reply.TheVariants.{Done, Value, Escaped, Dumped, Restored, Copied, Verified, KeyMissing, KeyThere, NoTransaction, Full, Number, Pair, End, Played, Closed, Generated}
@@ -26,7 +26,7 @@ use Rattle.tdb_answer.specs.Acts.{reply_of}
 use Rattle.tdb_answer.specs.Looks.{look_reply}
 use Rattle.tdb_answer.specs.Commands.Rescue.{RescueDue}
 use Rattle.tdb_answer.specs.Output.{Output}
-use Rattle.tdb_open.specs.Opening.{opened_bytes, CanOpen, CanRead, IsRefusedToRead, IsRefusedBelow}
+use Rattle.tdb_open.specs.Opening.{opened_bytes, CanOpen, CanRead, IsRefusedToRead, IsRefusedToReadBelow, IsRefusedBelow}
 
 -- What a run says: the status that it exits with, and the text that it prints: a line and its newline, lines, or
 -- nothing. A line that tells a value, a number or a name takes memory; one that is the same in each run takes none.
@@ -116,6 +116,12 @@ pub record RefusesToRead (img : List ℕ) (e : Ending) : Type 0 where
   pub right : IsRefusedToRead img refusal
   pub refused : e ≡ Refused refusal
 
+-- or it may have so many bytes, and is refused so
+pub record RefusesToReadBelow (limit : ℕ) (img : List ℕ) (e : Ending) : Type 0 where
+  pub refusal : Refusal
+  pub right : IsRefusedToReadBelow limit img refusal
+  pub refused : e ≡ Refused refusal
+
 -- the file with these bytes, which may have so many, is opened, and what was asked for is printed of it
 pub record PrintsOpened (limit : ℕ) (img : List ℕ) (e : Ending) : Type 0 where
   pub within : length img ≤ limit
@@ -132,7 +138,7 @@ MakingDue file e =
 -- file is depends on its input, as turns and a session do, how a backup and a verification end on all their files
 -- (`BackupEnds`, `VerifyEnds`), and how generated commands end on how they were done (`GenSo`), so none is due to what
 -- is held at one name. Where a file that is written anew isn't refused, it depends on where its records come to lie
--- (`RepackEnds`).
+-- (`RepackEnds`), as where another file is made of its pairs, and on what stands at the name of that (`ConvertEnds`).
 abbrev pub TaskDue : Task → List ℕ → Option History → Ending → Type 0
 TaskDue (On act) name None e = e ≡ Missing name
 TaskDue (On act) name (Some h) e = Replies act (seen h) e ⊎ Refuses act.limit (seen h) e
@@ -150,6 +156,8 @@ TaskDue (Restore limit) name None e = ⊥
 TaskDue (Restore limit) name (Some h) e = e ≡ There name
 TaskDue (Backup more suffix) name held e = ⊥
 TaskDue (Verify more suffix) name held e = ⊥
+TaskDue (Convert new made prefix) name None e = e ≡ Missing name
+TaskDue (Convert new made prefix) name (Some h) e = RefusesToReadBelow made.limit (seen h) e
 TaskDue (Turns options) name held e = ⊥
 TaskDue (Session limit) name held e = ⊥
 TaskDue (Generate commands seed) name None e = ⊥
@@ -191,6 +199,7 @@ has_openers (Create form) = false
 has_openers (Restore limit) = false
 has_openers (Backup more suffix) = false
 has_openers (Verify more suffix) = false
+has_openers (Convert new made prefix) = false
 has_openers (Turns options) = true
 has_openers (Session limit) = true
 has_openers (Generate commands seed) = true
@@ -210,6 +219,7 @@ CountedFor tells (Create form) before after e = CountedBy before after e
 CountedFor tells (Restore limit) before after e = CountedBy before after e
 CountedFor tells (Backup more suffix) before after e = CountedBy before after e
 CountedFor tells (Verify more suffix) before after e = CountedBy before after e
+CountedFor tells (Convert new made prefix) before after e = CountedBy before after e
 CountedFor tells (Turns options) before after e = CountedIf tells before after e
 CountedFor tells (Session limit) before after e = CountedIf tells before after e
 CountedFor tells (Generate commands seed) before after e = CountedIf tells before after e

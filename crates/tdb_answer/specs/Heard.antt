@@ -6,7 +6,7 @@ use Rattle.tdb_log.specs.Logs.{Logged, ToldAll, ToldUpTo}
 use Rattle.tdb_log.specs.declared.log.LogRefusal.{LogRefusal}
 use Rattle.tdb_log.specs.declared.notice.Notice.{Notice}
 use Rattle.tdb_log.specs.declared.notice.Notice.TheVariants.{Grew}
-use Rattle.tdb_open.specs.Notices.{OpeningHeard, ReadingHeard, BelowHeard}
+use Rattle.tdb_open.specs.Notices.{OpeningHeard, ReadingHeard, BelowHeard, ReadingBelowHeard}
 use Rattle.tdb_open.specs.Opening.{opened_bytes}
 use Rattle.tdb_open.specs.declared.halt.Fault.{Fault}
 use Rattle.tdb_open.specs.declared.halt.Fault.TheVariants as F
@@ -15,7 +15,7 @@ use Rattle.tdb_open.specs.declared.opening.Opened.{Opened}
 use Rattle.tdb_cmdline.specs.CopyNames.{copy_name}
 use Rattle.tdb_cmdline.specs.Ask.{Ask}
 use Rattle.tdb_cmdline.specs.declared.ask.Task.{Task}
-use Rattle.tdb_cmdline.specs.declared.ask.Task.TheVariants.{Create, On, Read, Rescue, Print, Repack, Restore, Backup, Verify, Turns, Session, Generate}
+use Rattle.tdb_cmdline.specs.declared.ask.Task.TheVariants.{Create, On, Read, Rescue, Print, Repack, Restore, Backup, Verify, Convert, Turns, Session, Generate}
 use Rattle.tdb_answer.specs.declared.ending.Ending.{Ending}
 use Rattle.tdb_answer.specs.declared.ending.Ending.TheVariants.{Replied, DeviceFault, NoMemory, LogFault}
 use Rattle.tdb_answer.specs.declared.ending.Reply.{Reply}
@@ -84,6 +84,11 @@ abbrev pub PrintHeard : ℕ → Option History → Ending → List Logged → Li
 PrintHeard limit None e old new = NothingHeard e old new
 PrintHeard limit (Some h) e old new = FileHeard (opened_bytes (seen h)) (BelowHeard limit (seen h)) e (ToldFor e []) old new
 
+-- and where it was opened to be read alone, and may have so many bytes
+abbrev pub ConvertHeard : ℕ → Option History → Ending → List Logged → List Logged → Type 0
+ConvertHeard limit None e old new = NothingHeard e old new
+ConvertHeard limit (Some h) e old new = FileHeard (seen h) (ReadingBelowHeard limit (seen h)) e (ToldFor e []) old new
+
 -- and where it was opened to be copied or counted
 abbrev pub OpenHeard : Option History → Ending → List Logged → List Logged → Type 0
 OpenHeard None e old new = NothingHeard e old new
@@ -130,6 +135,7 @@ TaskHeard (Create form) name held now e old new = NothingHeard e old new
 TaskHeard (Restore limit) name held now e old new = NothingHeard e old new
 TaskHeard (Backup more suffix) name held now e old new = BackupHeard (name ∷ more) held e old new
 TaskHeard (Verify more suffix) name held now e old new = VerifyHeard suffix (name ∷ more) held e old new
+TaskHeard (Convert other made prefix) name held now e old new = ConvertHeard made.limit (held name) e old new
 TaskHeard (Turns options) name held now e old new = TurnsHeard options (held name) e old new
 TaskHeard (Session limit) name held now e old new = SessionHeard limit (held name) e old new
 TaskHeard (Generate commands seed) name held now e old new = GenHeard commands seed (now name) e old new

@@ -3,7 +3,7 @@ use Rattle.std.specs.Prelude.{◌≡◌, ◌<◌, ◌⊎◌, ℕ, true, false, I
 use Rattle.tdb_disk.specs.History.{History, seen}
 use Rattle.tdb_cmdline.specs.declared.act.Act.{Act}
 use Rattle.tdb_cmdline.specs.declared.ask.Task.{Task}
-use Rattle.tdb_cmdline.specs.declared.ask.Task.TheVariants.{Create, On, Read, Rescue, Print, Repack, Restore, Backup, Verify, Turns, Session, Generate}
+use Rattle.tdb_cmdline.specs.declared.ask.Task.TheVariants.{Create, On, Read, Rescue, Print, Repack, Restore, Backup, Verify, Convert, Turns, Session, Generate}
 use Rattle.tdb_answer.specs.declared.ending.Ending.{Ending}
 use Rattle.tdb_answer.specs.declared.ending.Ending.TheVariants.{Replied, Refused, Missing, There, Usage, DeviceFault, InputFault, Malformed, NoMemory, LogFault}
 use Rattle.tdb_answer.specs.declared.ending.Reply.TheVariants.{Done, Restored}
@@ -18,6 +18,7 @@ use Rattle.tdb_open.specs.Creating.{new_length}
 use Rattle.tdb_answer.specs.Commands.Create.{LeftEmpty, CreateLeaves}
 use Rattle.tdb_answer.specs.Commands.Print.{PrintLeaves}
 use Rattle.tdb_answer.specs.Commands.Repack.{RepackLeaves}
+use Rattle.tdb_answer.specs.Commands.Convert.{ConvertLeaves}
 use Rattle.tdb_answer.specs.Commands.Restore.{IsRestored}
 use Rattle.tdb_answer.specs.Commands.Session.{StaysThere}
 use Rattle.tdb_answer.specs.Commands.Turns.{TurnsLeave}
@@ -82,6 +83,7 @@ TaskLeaves input (Create form) file old e now = MakingLeaves form (old file) e (
 TaskLeaves input (Restore limit) file old e now = RestoreLeaves input (old file) e (now file)
 TaskLeaves input (Backup more suffix) file old e now = BackupLeaves suffix (file ∷ more) old e now
 TaskLeaves input (Verify more suffix) file old e now = VerifyLeaves suffix (file ∷ more) old e now
+TaskLeaves input (Convert new made prefix) file old e now = (now file ≡ old file) × ConvertLeaves made prefix file new (old file) (old new) e (now new)
 TaskLeaves input (Turns options) file old e now = TurnsLeave options (old file) e (now file)
 TaskLeaves input (Session limit) file old e now = StaysThere (old file) (now file)
 TaskLeaves input (Generate commands seed) file old e now = GenLeaves commands seed (old file) e (now file)
@@ -96,6 +98,7 @@ MayChange (Print printout limit) file name = name ≡ file
 MayChange (Repack limit) file name = (name ≡ file) ⊎ (name ≡ temporary_name file)
 MayChange (Create form) file name = name ≡ file
 MayChange (Restore limit) file name = name ≡ file
+MayChange (Convert new made prefix) file name = (name ≡ file) ⊎ (name ≡ new)
 MayChange (Turns options) file name = name ≡ file
 MayChange (Session limit) file name = name ≡ file
 MayChange (Generate commands seed) file name = name ≡ file

@@ -9,7 +9,7 @@ use Rattle.tdb_answer.specs.declared.ending.Ending.TheVariants.{Replied, Refused
 use Rattle.tdb_answer.specs.declared.ending.Unprinted.{Unprinted}
 use Rattle.tdb_answer.specs.declared.ending.Unprinted.TheVariants as Rest
 use Rattle.tdb_answer.specs.declared.ending.Reply.{Reply}
-use Rattle.tdb_answer.specs.declared.ending.Reply.TheVariants.{Dumped, Played}
+use Rattle.tdb_answer.specs.declared.ending.Reply.TheVariants.{Copied, Dumped, Played}
 use Rattle.tdb_open.specs.Opening.{CanRead, IsRefusedToRead}
 use Rattle.tdb_answer.specs.Commands.Dump.{value_reply, pairs_text}
 
@@ -32,9 +32,10 @@ LookEnds look img Usage = ⊥
 LookEnds look img InputFault = ⊥
 LookEnds look img (Malformed at) = ⊥
 
--- what of a text stands before the line of a reply: all of it before the one that says so
+-- what of a text stands before the line of a reply: all of it before the ones for which no line is written any more
 abbrev pub before_reply : Reply → List ℕ → List ℕ
 before_reply Dumped text = text
+before_reply Copied text = text
 before_reply _ text = []
 
 -- What may stand of a text before the line of an ending: some bytes, from its first one on, where a call failed or
@@ -59,7 +60,8 @@ look_tells (Value key) files output = output
 
 -- What was left to be told where the output failed: that all was printed, or that a call of a disk failed. How a
 -- verification of the files would have ended that weren't looked at isn't known, so that it ends as one for which
--- memory was wanting: that may come at any file, and says nothing of those behind it.
+-- memory was wanting: that may come at any file, and says nothing of those behind it. So ends a conversion whose new
+-- file is removed again.
 abbrev pub rest_of : Unprinted → Ending
 rest_of Rest.Pairs = Replied Dumped
 rest_of Rest.Report = Replied Played

@@ -4,19 +4,20 @@ use Rattle.tdb_disk.specs.Count.{Rose}
 use Rattle.tdb_disk.specs.History.{History}
 use Rattle.tdb_answer.specs.declared.ending.Unprinted.{Unprinted}
 use Rattle.tdb_cmdline.specs.declared.ask.Task.{Task}
-use Rattle.tdb_cmdline.specs.declared.ask.Task.TheVariants.{Create, On, Read, Rescue, Print, Repack, Restore, Backup, Verify, Turns, Session, Generate}
+use Rattle.tdb_cmdline.specs.declared.ask.Task.TheVariants.{Create, On, Read, Rescue, Print, Repack, Restore, Backup, Verify, Convert, Turns, Session, Generate}
 use Rattle.tdb_answer.specs.declared.ending.Ending.{Ending}
 use Rattle.tdb_answer.specs.declared.ending.Ending.TheVariants.{Replied}
 use Rattle.tdb_answer.specs.declared.ending.Reply.TheVariants.{Restored, Copied, Verified, Closed}
 use Rattle.tdb_cmdline.specs.Ask.{Ask}
 use Rattle.tdb_answer.specs.Ending.{Prints, status_of, text_of}
 use Rattle.tdb_answer.specs.Output.{Output}
+use Rattle.tdb_answer.specs.Commands.Convert.{converted_line}
 use Rattle.tdb_answer.specs.Commands.Print.{PrintText}
 use Rattle.tdb_answer.specs.Commands.Rescue.{RescueText}
 use Rattle.tdb_answer.specs.Commands.Session.{SessionText}
 use Rattle.tdb_answer.specs.Commands.Turns.{TurnsText}
 use Rattle.tdb_answer.specs.Commands.Verify.{VerifyText}
-use Rattle.tdb_answer.specs.Looks.{LookText, look_tells, rest_of}
+use Rattle.tdb_answer.specs.Looks.{LookText, StandsBefore, look_tells, rest_of}
 
 -- what a task on the file of this name prints before the line of its ending, by what is held at each name; looks,
 -- rescues, printings, turns, sessions and verifications print such a text
@@ -30,6 +31,7 @@ TaskText (Create form) name held e text = text ≡ []
 TaskText (Restore limit) name held e text = text ≡ []
 TaskText (Backup more suffix) name held e text = text ≡ []
 TaskText (Verify more suffix) name held e text = VerifyText suffix (name ∷ more) held e text
+TaskText (Convert new made prefix) name held e text = StandsBefore converted_line e text
 TaskText (Turns options) name held e text = TurnsText options (held name) e text
 TaskText (Session limit) name held e text = SessionText limit (held name) e text
 TaskText (Generate commands seed) name held e text = text ≡ []
@@ -51,6 +53,7 @@ task_tells (Create form) files output = output
 task_tells (Restore limit) files output = output
 task_tells (Backup more suffix) files output = output
 task_tells (Verify more suffix) files output = output && files
+task_tells (Convert new made prefix) files output = output
 task_tells (Turns options) files output = output && files
 task_tells (Session limit) files output = output && files
 task_tells (Generate commands seed) files output = output
@@ -65,7 +68,7 @@ pub record WritesAll (told : Bool) (o : Output) (Text : Ending → List ℕ → 
   pub sound : o.faults_after ≡ o.faults_before
   pub written : IsTrue told → (text : List ℕ) × Text e text × (o.after ≡ o.before ++ text ++ text_of e)
 
--- a restore, a backup, a verification or a `quit` that was done, for which no line is written
+-- a restore, a backup, a verification, a conversion or a `quit` that was done, for which no line is written any more
 abbrev pub IsSilent : Ending → Type 0
 IsSilent e = (e ≡ Replied Restored) ⊎ (e ≡ Replied Copied) ⊎ (e ≡ Replied Verified) ⊎ (e ≡ Replied Closed)
 

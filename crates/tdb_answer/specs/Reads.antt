@@ -2,11 +2,13 @@
 use Rattle.std.specs.Prelude.{◌≡◌, ◌⊎◌, ℕ, Bool, true, false, Option, None, Some, List, ◌∷◌}
 use Rattle.tdb_disk.specs.History.{History, seen}
 use Rattle.tdb_cmdline.specs.declared.ask.Task.{Task}
-use Rattle.tdb_cmdline.specs.declared.ask.Task.TheVariants.{Create, On, Read, Rescue, Print, Repack, Restore, Backup, Verify, Turns, Session, Generate}
+use Rattle.tdb_cmdline.specs.declared.ask.Task.TheVariants.{Create, On, Read, Rescue, Print, Repack, Restore, Backup, Verify, Convert, Turns, Session, Generate}
 use Rattle.tdb_answer.specs.declared.ending.Ending.{Ending}
 use Rattle.tdb_cmdline.specs.Ask.{Ask}
 use Rattle.tdb_answer.specs.Commands.Backup.{BackupEnds}
 use Rattle.tdb_answer.specs.Commands.Repack.{RepackEnds}
+use Rattle.tdb_answer.specs.Commands.Convert.{ConvertEnds}
+use Rattle.tdb_cmdline.specs.declared.lines.create.NewFile.{NewFile}
 use Rattle.tdb_answer.specs.Commands.Restore.{ReadSo}
 use Rattle.tdb_answer.specs.Commands.Session.{ServesSo}
 use Rattle.tdb_answer.specs.Commands.Turns.{PlaysSo}
@@ -27,6 +29,7 @@ reads_input (Create form) = false
 reads_input (Restore limit) = true
 reads_input (Backup more suffix) = false
 reads_input (Verify more suffix) = false
+reads_input (Convert new made prefix) = false
 reads_input (Turns options) = true
 reads_input (Session limit) = true
 reads_input (Generate commands seed) = false
@@ -94,6 +97,17 @@ pub record EndsByPairs (task : Task) (held : Option History) (e : Ending) : Type
   pub there : held ≡ Some was
   pub ends : RepackEnds limit (seen was) e
 
+-- the task makes another file of the pairs of the one that is at its name, and ends so by what becomes of them, and by
+-- what is held at the name of the other
+pub record EndsByConversion (task : Task) (name : List ℕ) (held : List ℕ → Option History) (e : Ending) : Type 0 where
+  pub new : List ℕ
+  pub made : NewFile
+  pub prefix : List ℕ
+  pub was : History
+  pub converts : task ≡ Convert new made prefix
+  pub there : held name ≡ Some was
+  pub ends : ConvertEnds made prefix (seen was) new (held new) e
+
 -- why a task on the file of a name ends so, by what is held at all names
 abbrev pub AskEnds : Input → Task → List ℕ → (List ℕ → Option History) → ℕ → ℕ → Ending → Type 0
-AskEnds input task name held before after e = AskCause input task name (held name) before after e ⊎ EndsByFiles task name held e ⊎ EndsByCounts task name held e ⊎ EndsByCommands task (held name) e ⊎ EndsByPairs task (held name) e
+AskEnds input task name held before after e = AskCause input task name (held name) before after e ⊎ EndsByFiles task name held e ⊎ EndsByCounts task name held e ⊎ EndsByCommands task (held name) e ⊎ EndsByPairs task (held name) e ⊎ EndsByConversion task name held e

@@ -9,7 +9,7 @@ use Rattle.tdb_space.specs.Opening.{Opens}
 use Rattle.tdb_cmdline.specs.declared.act.Act.{Act}
 use Rattle.tdb_cmdline.specs.declared.look.Look.{Look}
 use Rattle.tdb_cmdline.specs.declared.ask.Task.{Task}
-use Rattle.tdb_cmdline.specs.declared.ask.Task.TheVariants.{Create, On, Read, Rescue, Print, Repack, Restore, Backup, Verify, Turns, Session, Generate}
+use Rattle.tdb_cmdline.specs.declared.ask.Task.TheVariants.{Create, On, Read, Rescue, Print, Repack, Restore, Backup, Verify, Convert, Turns, Session, Generate}
 use Rattle.tdb_cmdline.specs.declared.lines.create.NewFile.{NewFile}
 use Rattle.tdb_answer.specs.declared.commands.create.Creation.TheVariants.{Made, Device}
 use Rattle.tdb_answer.specs.declared.ending.Ending.{Ending}
@@ -25,6 +25,7 @@ use Rattle.tdb_answer.specs.Printed.{TextBefore, ask_tells, Writes}
 use Rattle.tdb_cmdline.specs.CopyNames.{IsForCopyAmong, IsForRestoreAmong, temporary_name}
 use Rattle.tdb_answer.specs.Commands.Backup.{CopiedAll, StoppedAt, IsLeftOf, BackupEnds}
 use Rattle.tdb_answer.specs.Commands.Repack.{RepackEnds, HasRepacked}
+use Rattle.tdb_answer.specs.Commands.Convert.{ConvertEnds, WasConverted}
 use Rattle.tdb_open.specs.Creating.{new_length}
 use Rattle.tdb_answer.specs.Commands.Create.{LeftEmpty, CreateLeaves}
 use Rattle.tdb_answer.specs.Commands.Restore.{ReadSo}
@@ -76,8 +77,8 @@ run_by words old now before after input output status = record {
 -- Why a run ends so that is asked for this, or for nothing: it is due; or a restore was asked for, no file was at its
 -- name, and its input says so; or a backup or a verification was, and its files say so; or turns were, and their script
 -- and their file say so; or a session was, and its lines and its file say so; or generated commands were, no file was
--- at the name, and it is how they were done; or a file was to be written anew, and it is what became of its pairs; or it
--- is asked for something and a call failed, or a log did; or memory was wanting.
+-- at the name, and it is how they were done; or a file was to be written anew, or another one to be made of its pairs,
+-- and it is what became of these; or it is asked for something and a call failed, or a log did; or memory was wanting.
 pub data MayEnd (ask : Option Ask) (held : List ℕ → Option History) (input : Input) (before after : ℕ) : Ending → Type 0 where
   is_due : (e : Ending) → Due ask held e → MayEnd ask held input before after e
   is_read : (e : Ending) (limit : ℕ) (name : List ℕ) → ask ≡ Some (record { file = name; task = Restore limit }) → held name ≡ None → ReadSo input limit e → MayEnd ask held input before after e
@@ -87,6 +88,7 @@ pub data MayEnd (ask : Option Ask) (held : List ℕ → Option History) (input :
   is_served : (e : Ending) (limit : ℕ) (name : List ℕ) → ask ≡ Some (record { file = name; task = Session limit }) → ServesSo input limit name (held name) e → MayEnd ask held input before after e
   is_generated : (e : Ending) (commands seed : ℕ) (name : List ℕ) → ask ≡ Some (record { file = name; task = Generate commands seed }) → held name ≡ None → GenSo commands seed e → MayEnd ask held input before after e
   is_repacked : (e : Ending) (limit : ℕ) (name : List ℕ) (h : History) → ask ≡ Some (record { file = name; task = Repack limit }) → held name ≡ Some h → RepackEnds limit (seen h) e → MayEnd ask held input before after e
+  is_converted : (e : Ending) (made : NewFile) (prefix new name : List ℕ) (h : History) → ask ≡ Some (record { file = name; task = Convert new made prefix }) → held name ≡ Some h → ConvertEnds made prefix (seen h) new (held new) e → MayEnd ask held input before after e
   call_failed : (a : Ask) → ask ≡ Some a → Rose before after → MayEnd ask held input before after DeviceFault
   memory_wanting : MayEnd ask held input before after NoMemory
   log_failed : (a : Ask) → ask ≡ Some a → MayEnd ask held input before after LogFault
@@ -132,9 +134,15 @@ pub record Repacks (run : Run) (limit : ℕ) (name : List ℕ) (old : History) :
   pub asks : run.ask ≡ Some (record { file = name; task = Repack limit })
   pub there : run.old name ≡ Some old
 
--- Of an act, a look, a printing or a file that is to be written anew status 3 comes only over a file whose bytes can't be opened, in the way that the
--- command opens it, and of a rescue only over one that has no header without a fault; and over each that is no longer
--- than the longest and than it may be nothing else comes, unless a call or a log failed or memory was wanting.
+-- the words ask to make another file of the pairs of one that is there and has this history
+pub record Converts (run : Run) (made : NewFile) (prefix new name : List ℕ) (old : History) : Type 0 where
+  pub asks : run.ask ≡ Some (record { file = name; task = Convert new made prefix })
+  pub there : run.old name ≡ Some old
+
+-- Of an act, a look, a printing, a file that is to be written anew or one of whose pairs another is to be made status 3
+-- comes only over a file whose bytes can't be opened, in the way that the command opens it, and of a rescue only over
+-- one that has no header without a fault; and over each that is no longer than the longest and than it may be nothing
+-- else comes, unless a call or a log failed or memory was wanting.
 pub record RefusesExactly (run : Run) : Type 0 where
   pub only : (act : Act) (name : List ℕ) (h : History) → ActsOn run act name h → run.status ≡ 3 → Opens (seen h) → ⊥
   pub exact : (act : Act) (name : List ℕ) (h : History) → ActsOn run act name h → (Opens (seen h) → ⊥) → length (seen h) ≤ LONGEST_FILE → length (seen h) ≤ act.limit → (run.status ≡ 3) ⊎ TellsFault run.status
@@ -146,6 +154,8 @@ pub record RefusesExactly (run : Run) : Type 0 where
   pub print_exact : (printout : Printout) (limit : ℕ) (name : List ℕ) (h : History) → PrintsOf run printout limit name h → (Opens (seen h) → ⊥) → length (seen h) ≤ LONGEST_FILE → length (seen h) ≤ limit → (run.status ≡ 3) ⊎ TellsFault run.status
   pub repack_only : (limit : ℕ) (name : List ℕ) (h : History) → Repacks run limit name h → run.status ≡ 3 → Opens (seen h) → ⊥
   pub repack_exact : (limit : ℕ) (name : List ℕ) (h : History) → Repacks run limit name h → (Opens (seen h) → ⊥) → length (seen h) ≤ LONGEST_FILE → length (seen h) ≤ limit → (run.status ≡ 3) ⊎ TellsFault run.status
+  pub convert_only : (made : NewFile) (prefix new name : List ℕ) (h : History) → Converts run made prefix new name h → run.status ≡ 3 → OpensToRead (seen h) → ⊥
+  pub convert_exact : (made : NewFile) (prefix new name : List ℕ) (h : History) → Converts run made prefix new name h → (OpensToRead (seen h) → ⊥) → length (seen h) ≤ LONGEST_FILE → length (seen h) ≤ made.limit → (run.status ≡ 3) ⊎ TellsFault run.status
 
 -- a status after which every file is as before or undone, whatever the words ask for, but for copies and restored
 -- files, and for turns and sessions that ended in their midst (`EndsMidway`): it says neither that it was done, nor
@@ -253,6 +263,13 @@ pub record SessionRun (limit : ℕ) (input : Input) (output : Output) (old : His
   pub kept : KeepsAll status → status ≢ 5 → status ≢ 7 → TurnOpened (session_options limit) old now
   pub halted : KeepsAll status → status ≢ 5 → status ≢ 7 → HaltHeard limit (seen old) logs later
 
+-- What a run leaves at the name of a file that is to be made of the pairs of another one. What stood there stays. Where
+-- the status is neither 0 nor 4 no file is left that wasn't there, unless a call of the files failed and then the output.
+pub record ConvertRun (made : NewFile) (prefix : List ℕ) (held old : Option History) (before after status : ℕ) (now : Option History) : Type 0 where
+  pub done : status ≡ 0 → WasConverted made prefix held old now
+  pub there : IsSome old → now ≡ old
+  pub kept : status ≢ 0 → status ≢ 4 → (now ≡ old) ⊎ ((status ≡ 8) × Rose before after)
+
 -- What a run leaves at the name of a file on which generated commands are to be done. Where the status is neither 0 nor
 -- 4 no file is left that wasn't there, unless the output failed, behind them or behind a failed call.
 pub record GeneratingRun (commands seed : ℕ) (output : Output) (old : Option History) (before after status : ℕ) (now : Option History) : Type 0 where
@@ -293,6 +310,8 @@ pub record LeavesFiles (run : Run) (logs later : List Logged) : Type 0 where
       → (h : History) × (run.now name ≡ Some h) × RepackRun limit old (run.old (temporary_name name)) run.faults_before run.faults_after run.status h (run.now (temporary_name name))
   pub unrepacked : (limit : ℕ) (name : List ℕ) → run.ask ≡ Some (record { file = name; task = Repack limit }) → run.old name ≡ None
       → (run.now name ≡ None) × (run.now (temporary_name name) ≡ run.old (temporary_name name))
+  pub converted : (made : NewFile) (prefix new name : List ℕ) → run.ask ≡ Some (record { file = name; task = Convert new made prefix })
+      → (run.now name ≡ run.old name) × ConvertRun made prefix (run.old name) (run.old new) run.faults_before run.faults_after run.status (run.now new)
   pub turned : (options : Options) (name : List ℕ) (old : History) → run.ask ≡ Some (record { file = name; task = Turns options }) → run.old name ≡ Some old
       → (h : History) × (run.now name ≡ Some h) × TurnsRun options run.input run.output old run.faults_before run.faults_after run.status h logs later
   pub unturned : (options : Options) (name : List ℕ) → run.ask ≡ Some (record { file = name; task = Turns options }) → run.old name ≡ None → run.now name ≡ None

@@ -22,6 +22,7 @@ ghost use Rattle.tdb_answer.specs.Stops.{StopsScripted};
 
 use crate::act::act_on_file;
 use crate::commands::backup::back_up;
+use crate::commands::convert::convert;
 use crate::commands::create::create_file;
 use crate::commands::generate::generate_file;
 use crate::commands::print::print_on_file;
@@ -90,6 +91,16 @@ pub fn answer_ask<F: Files, S: Source, K: Sink, L: Logs>(
             name,
             more.as_slice(),
             suffix.as_str(),
+            files,
+            output,
+            logs,
+        ),
+        Task::Convert { new, made, prefix } => convert(
+            alloc,
+            name,
+            new.as_str(),
+            *made,
+            prefix.as_slice(),
             files,
             output,
             logs,

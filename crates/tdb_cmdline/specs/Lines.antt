@@ -1,5 +1,6 @@
 -- The words of each command, as they stand behind its name.
 pub mod Backup
+pub mod Convert
 pub mod Create
 pub mod Dump
 pub mod Generate

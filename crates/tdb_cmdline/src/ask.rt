@@ -3,12 +3,12 @@
 ghost use Rattle.std.specs.Prelude.{◌≡◌, ◌≤◌, ℕ, List, map, string_bytes, IfOk, IfSome};
 ghost use Rattle.std.specs.Option.{option_map};
 ghost use Rattle.tdb_cmdline.specs.Acts.{print_of};
-ghost use Rattle.tdb_cmdline.specs.Ask.{asked, asks, on_file, print_file, repack_of, tool_task, ask_of, words_ask, tool_asks, dump_asks, restore_asks, backup_asks, turns_asks, gen_asks, task_of as task_asked, VerbFits, TaskFits};
+ghost use Rattle.tdb_cmdline.specs.Ask.{asked, asks, on_file, print_file, repack_of, tool_task, ask_of, words_ask, tool_asks, dump_asks, restore_asks, backup_asks, convert_asks, turns_asks, gen_asks, task_of as task_asked, VerbFits, TaskFits};
 
 use crate::act::{Act, Verb};
 use crate::lines::create::NewFile;
 use crate::lines::turns::options_in;
-use crate::lines::{backup, dump, generate};
+use crate::lines::{backup, convert, dump, generate};
 use crate::look::Look;
 use crate::names::{Names, Text};
 use crate::options::{Command, Line};
@@ -16,6 +16,7 @@ use crate::printout::Printout;
 use std::alloc::{AllocError, Global};
 use tdb_dump::Listing;
 use tdb_openers::Options;
+use tdb_words::Bytes;
 
 /// What is to be done with a file. A limit, as `Ask::of` reads it, is from 696 to 4,294,963,200 bytes.
 #[derive(Debug, Drop)]
@@ -33,29 +34,54 @@ pub enum Task {
     Rescue,
 
     /// To print this of it, where it is there and may have `limit` bytes.
-    Print { printout: Printout, limit: u64 },
+    Print {
+        printout: Printout,
+        limit: u64,
+    },
 
     /// To write it anew, where it is there. It may have `limit` bytes, before and after.
-    Repack { limit: u64 },
+    Repack {
+        limit: u64,
+    },
 
     /// To make it, of the pairs on the input. It may be up to `limit` bytes long.
-    Restore { limit: u64 },
+    Restore {
+        limit: u64,
+    },
 
     /// To copy it and more files, each to its name and a suffix.
-    Backup { more: Names, suffix: Text },
+    Backup {
+        more: Names,
+        suffix: Text,
+    },
 
     /// To tell how many keys it and more files have, and to restore those that are refused, each from its copy.
-    Verify { more: Names, suffix: Text },
+    Verify {
+        more: Names,
+        suffix: Text,
+    },
+
+    /// To make a new file of the pairs of it whose key begins with `prefix`. The new one has another name.
+    Convert {
+        new: Text,
+        made: NewFile,
+        prefix: Bytes,
+    },
 
     /// To take the plays of the script on the input over it, which is opened so.
     Turns(Options),
 
     /// To take the commands on the lines of the input over it, which may become `limit` bytes long.
-    Session { limit: u64 },
+    Session {
+        limit: u64,
+    },
 
     /// To make it, and have so many commands done on it, from 0 to 1,000,000, that are made of the seed, which is any
     /// number of 32 bits.
-    Generate { commands: u32, seed: u32 },
+    Generate {
+        commands: u32,
+        seed: u32,
+    },
 }
 
 /// What a command line asks for.
@@ -232,6 +258,20 @@ impl Ask {
         }
     }
 
+    /// What a line of `convert` asks for.
+    fn of_convert(alloc: Global, line: &Line) -> Result<Option<Ask>, AllocError>
+        ensures read { IfOk result (λ ask. option_map asked ask ≡ convert_asks line.now) }
+        ensures fits { IfOk result (λ ask. IfSome ask (λ a. TaskFits (string_bytes a.file) a.task)) }
+    {
+        match convert::asks_of(alloc, line)? {
+            Some((file, task)) => {
+                let file = file.into_string();
+                Ok(Some(Ask { file, task }))
+            }
+            None => Ok(None),
+        }
+    }
+
     /// What a line of `turns` asks for.
     fn of_turns(alloc: Global, line: &Line) -> Result<Option<Ask>, AllocError>
         ensures read { IfOk result (λ ask. option_map asked ask ≡ turns_asks line.now) }
@@ -280,6 +320,7 @@ impl Ask {
             Command::Dump => Ask::of_dump(alloc, &line),
             Command::Restore => Ask::of_restore(alloc, &line),
             Command::Backup => Ask::of_backup(alloc, line),
+            Command::Convert => Ask::of_convert(alloc, &line),
             Command::Turns => Ask::of_turns(alloc, &line),
             Command::Generate => Ask::of_gen(alloc, &line),
         }

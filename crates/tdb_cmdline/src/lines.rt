@@ -1,6 +1,7 @@
 // The words of each command, as they stand behind its name.
 
 pub(crate) mod backup;
+pub(crate) mod convert;
 pub(crate) mod create;
 pub(crate) mod dump;
 pub(crate) mod generate;

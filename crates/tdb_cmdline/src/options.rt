@@ -26,6 +26,7 @@ pub(crate) enum Command {
     Dump,
     Restore,
     Backup,
+    Convert,
     Turns,
     Generate,
 }
@@ -80,6 +81,7 @@ impl Command {
             "dump" => Some(Command::Dump),
             "restore" => Some(Command::Restore),
             "backup" => Some(Command::Backup),
+            "convert" => Some(Command::Convert),
             "turns" => Some(Command::Turns),
             "gen" => Some(Command::Generate),
             _ => None,
@@ -103,6 +105,10 @@ impl Command {
             Command::Backup => match name {
                 "-s" => Some(Kind::Valued),
                 "-v" => Some(Kind::Flag),
+                _ => None,
+            },
+            Command::Convert => match name {
+                "--limit" | "--prefix" => Some(Kind::Valued),
                 _ => None,
             },
             Command::Turns => match name {
@@ -170,6 +176,9 @@ impl Command {
             Command::Backup => bare
                 .arg(Arg::new(alloc, "-s").short('s'))?
                 .arg(flag(alloc, "-v").short('v')),
+            Command::Convert => bare
+                .arg(Arg::new(alloc, "--limit").long("limit"))?
+                .arg(Arg::new(alloc, "--prefix").long("prefix")),
             Command::Turns => bare
                 .arg(Arg::new(alloc, "--limit").long("limit"))?
                 .arg(flag(alloc, "--no-nesting").long("no-nesting"))?

@@ -33,7 +33,7 @@ use Rattle.tdb_open.specs.declared.halt.Refusal.{Refusal}
 use Rattle.tdb_open.specs.declared.halt.Refusal.TheVariants.{TooLong, Header, Corrupt, NeedsRecovery}
 use Rattle.tdb_open.specs.declared.opening.Opened.{Opened}
 use Rattle.tdb_open.specs.Opening.{opened_bytes, CanRead, HasOpenGate, IsUndone, IsOpenedOn, IsCheckedOn, UndoneIfOpen, HaltsRightly, ReadHaltsRightly, HaltsAtFault, HaltLeaves, asks_for_undo, of_front, of_undo, of_log}
-use Rattle.tdb_open.specs.Notices.{checked, refusal_tells, verdict, UndoTells, OpeningTells, tells_checked, tells_refused, UndoTold, RefusesNotice, OpeningHeard, UndoHeard, ReadingHeard, IsTooLong, BelowHeard}
+use Rattle.tdb_open.specs.Notices.{checked, refusal_tells, verdict, UndoTells, OpeningTells, tells_checked, tells_refused, UndoTold, RefusesNotice, OpeningHeard, UndoHeard, ReadingHeard, IsTooLong, BelowHeard, ReadingBelowHeard}
 use Rattle.tdb_open.proofs.Openings.{none_some, no_open_gate, read_opened}
 
 -- notices that were told, and then more
@@ -255,6 +255,12 @@ pub no_length_heard : (limit : ℕ) (img : List ℕ) (logs : List Logged) → Be
 no_length_heard limit img logs = elim (cases_lt limit (length img)) [
   | inl more ↦ inl (more, refl, inr refl)
   | inr within ↦ inr (within, inl refl)
+]
+
+pub no_length_unread : (limit : ℕ) (img : List ℕ) (logs : List Logged) → ReadingBelowHeard limit img logs logs (Err Device)
+no_length_unread limit img logs = elim (cases_lt limit (length img)) [
+  | inl more ↦ inl (more, refl, inr refl)
+  | inr within ↦ inr (within, refl)
 ]
 
 -- where its length is known, and too great, that is answered

@@ -33,7 +33,7 @@ use Rattle.tdb_open.specs.declared.halt.Halt.TheVariants.{Refused, Device, Memor
 use Rattle.tdb_open.specs.declared.halt.Refusal.TheVariants.{TooLong, Header, Corrupt, NeedsRecovery}
 use Rattle.tdb_open.specs.declared.opening.Opened.{Opened}
 use Rattle.tdb_open.specs.declared.limits.TheConstants.{LONGEST_FILE}
-use Rattle.tdb_open.specs.Opening.{opened_bytes, CanOpen, CanRead, HasOpenGate, IsOpenedOn, IsCheckedOn, Undone, SameOrUndone, UndoneIfOpen, UndoBroken, HaltsRightly, ReadHaltsRightly, HaltsAtFault, HaltLeaves, asks_for_undo, of_front, of_restored_front, of_undo, of_check, OpenedBelow, HaltsBelow, LeavesBelow}
+use Rattle.tdb_open.specs.Opening.{opened_bytes, CanOpen, CanRead, HasOpenGate, IsOpenedOn, IsCheckedOn, Undone, SameOrUndone, UndoneIfOpen, UndoBroken, HaltsRightly, ReadHaltsRightly, HaltsAtFault, HaltLeaves, asks_for_undo, of_front, of_restored_front, of_undo, of_check, OpenedBelow, HaltsBelow, LeavesBelow, ReadHaltsBelow}
 use Rattle.tdb_open.specs.Opening.{OpensSafely}
 
 pub none_some : (o : Option Fault) (e : Fault) → o ≡ None → o ≡ Some e → ⊥
@@ -272,12 +272,21 @@ long_halts limit len img is past = let long : limit < length img = omega (arith,
 pub long_leaves : (limit len : ℕ) (old now : History) → len ≡ length (seen old) → limit < len → now ≡ old → OpenedBelow limit old now
 long_leaves limit len old now is past same = let long : limit < length (seen old) = omega (arith, is, past) in inl (long, same)
 
+pub long_unread : (limit len : ℕ) (img : List ℕ) → len ≡ length img → limit < len → ReadHaltsBelow limit img (Refused (TooLong len))
+long_unread limit len img is past = let long : limit < length img = omega (arith, is, past) in inl (ap TooLong is, long)
+
 -- and else as any opening refuses it
 below_halts : (limit : ℕ) (img : List ℕ) (halt : Halt) → length img ≤ limit → HaltsRightly img halt → HaltsBelow limit img halt
 below_halts limit img (Refused refusal) within right = inr (within, right)
 below_halts limit img Device within right = tt
 below_halts limit img Memory within right = tt
 below_halts limit img Log within right = tt
+
+below_unread : (limit : ℕ) (img : List ℕ) (halt : Halt) → length img ≤ limit → ReadHaltsRightly img halt → ReadHaltsBelow limit img halt
+below_unread limit img (Refused refusal) within right = inr (within, right)
+below_unread limit img Device within right = tt
+below_unread limit img Memory within right = tt
+below_unread limit img Log within right = tt
 
 below_leaves : (limit : ℕ) (old now : History) (halt : Halt) → HaltLeaves halt old now → LeavesBelow limit halt old now
 below_leaves limit old now (Refused refusal) left = inr left
@@ -299,6 +308,13 @@ module _ (told : Type 0) (limit : ℕ) (r : Result Opened Halt) where
       of : (r : Result Opened Halt) → IfErr r (λ halt. told → HaltsRightly img halt) → IfErr r (λ halt. told → HaltsBelow limit img halt)
       of (Ok o) right = tt
       of (Err halt) right = λ is. below_halts limit img halt (within is) (right is)
+
+  pub unread_below : (img : List ℕ) → (told → length img ≤ limit) → IfErr r (λ halt. told → ReadHaltsRightly img halt) → IfErr r (λ halt. told → ReadHaltsBelow limit img halt)
+  unread_below img within = of r
+    where
+      of : (r : Result Opened Halt) → IfErr r (λ halt. told → ReadHaltsRightly img halt) → IfErr r (λ halt. told → ReadHaltsBelow limit img halt)
+      of (Ok o) right = tt
+      of (Err halt) right = λ is. below_unread limit img halt (within is) (right is)
 
   pub left_below : (old now : History) → IfErr r (λ halt. told → HaltLeaves halt old now) → IfErr r (λ halt. told → LeavesBelow limit halt old now)
   left_below old now = of r

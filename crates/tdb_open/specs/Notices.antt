@@ -90,3 +90,8 @@ IsTooLong img answer = (answer ≡ Err (Refused (TooLong (length img)))) ⊎ (an
 abbrev pub BelowHeard : ℕ → List ℕ → List Logged → List Logged → Result Opened Halt → Type 0
 BelowHeard limit img old new answer =
     ((limit < length img) × (new ≡ old) × IsTooLong img answer) ⊎ ((length img ≤ limit) × OpeningHeard img old new answer)
+
+-- The same of an opening to read alone.
+abbrev pub ReadingBelowHeard : ℕ → List ℕ → List Logged → List Logged → Result Opened Halt → Type 0
+ReadingBelowHeard limit img old new answer =
+    ((limit < length img) × (new ≡ old) × IsTooLong img answer) ⊎ ((length img ≤ limit) × ReadingHeard img old new answer)

@@ -189,6 +189,16 @@ LeavesBelow limit Device old now = LookBroken old now
 LeavesBelow limit Memory old now = UndoneIfOpen old now
 LeavesBelow limit Log old now = UndoneIfOpen old now
 
+-- a file that may have so many bytes and is to be read alone is refused so, and where it wasn't opened, it is
+abbrev pub IsRefusedToReadBelow : ℕ → List ℕ → Refusal → Type 0
+IsRefusedToReadBelow limit img refusal = ((refusal ≡ TooLong (length img)) × (limit < length img)) ⊎ ((length img ≤ limit) × IsRefusedToRead img refusal)
+
+abbrev pub ReadHaltsBelow : ℕ → List ℕ → Halt → Type 0
+ReadHaltsBelow limit img (Refused refusal) = IsRefusedToReadBelow limit img refusal
+ReadHaltsBelow limit img Device = Unit {0}
+ReadHaltsBelow limit img Memory = Unit {0}
+ReadHaltsBelow limit img Log = Unit {0}
+
 -- how a look halts where the front is refused
 abbrev pub of_front : Front.FrontRefusal → Halt
 of_front (Front.TheVariants.Short len) = Refused (Corrupt TooShort len)

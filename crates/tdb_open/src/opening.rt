@@ -51,9 +51,9 @@ fn check_disk<D: Disk>(alloc: Global, disk: &mut D, header: &Header) -> Result<R
 impl Opened {
     ghost use Rattle.tdb_open.specs.declared.halt.Halt.TheVariants.{Device, Log};
     ghost use Rattle.tdb_open.specs.declared.limits.TheConstants.{LONGEST_FILE as LONGEST};
-    ghost use Rattle.tdb_open.specs.Opening.{opened_bytes, CanRead, HasOpenGate, asks_for_undo, HaltsRightly, ReadHaltsRightly, HaltsAtFault, HaltLeaves, HaltsBelow, LeavesBelow, UndoneIfOpen, IsOpenedOn, IsCheckedOn};
+    ghost use Rattle.tdb_open.specs.Opening.{opened_bytes, CanRead, HasOpenGate, asks_for_undo, HaltsRightly, ReadHaltsRightly, HaltsAtFault, HaltLeaves, HaltsBelow, LeavesBelow, ReadHaltsBelow, UndoneIfOpen, IsOpenedOn, IsCheckedOn};
     ghost use Rattle.tdb_open.specs.Opening.{OpensSafely};
-    ghost use Rattle.tdb_open.specs.Notices.{UndoHeard, OpeningHeard, ReadingHeard, BelowHeard};
+    ghost use Rattle.tdb_open.specs.Notices.{UndoHeard, OpeningHeard, ReadingHeard, BelowHeard, ReadingBelowHeard};
 
     /// Opens the file on a disk after it was undone: its header is read again, and the whole file is checked. It
     /// changes nothing.
@@ -231,5 +231,29 @@ impl Opened {
             });
         }
         Opened::open(alloc, disk, logs)
+    }
+
+    /// Opens it as `open_to_read` does unless it has more than so many bytes, and then tells no log.
+    pub fn open_to_read_below<D: Disk, L: Logs>(
+        alloc: Global,
+        disk: &mut D,
+        limit: u64,
+        logs: &mut L,
+    ) -> Result<Opened, Halt>
+        ensures within { OnOk result (IsTrue D.tells → length (seen (D.history disk.old)) ≤ limit) }
+        ensures can_read { IfOk result (λ o. IsTrue D.tells → CanRead (seen (D.history disk.old))) }
+        ensures checked { IfOk result (λ o. IsTrue D.tells → IsCheckedOn (seen (D.history disk.old)) o) }
+        ensures refused { IfErr result (λ halt. IsTrue D.tells → ReadHaltsBelow limit (seen (D.history disk.old)) halt) }
+        ensures history { D.history disk.new ≡ D.history disk.old }
+        ensures heard { IsTrue D.tells → ReadingBelowHeard limit (seen (D.history disk.old)) (L.logs logs.old) (L.logs logs.new) result }
+        ensures cause { HasCauseOf Device (D.faults disk.old) (D.faults disk.new) result }
+    {
+        let len = disk.len()?;
+        if len > limit {
+            return Err(Halt::Refused {
+                refusal: Refusal::TooLong { len },
+            });
+        }
+        Opened::open_to_read(alloc, disk, logs)
     }
 }

@@ -7,7 +7,7 @@ use Rattle.std.proofs.Math.Seq.{take-append-add, take-append_seam}
 use Rattle.tdb_disk.specs.Count.{Rose, HasCause}
 use Rattle.tdb_disk.specs.History.{History}
 use Rattle.tdb_cmdline.specs.declared.ask.Task.{Task}
-use Rattle.tdb_cmdline.specs.declared.ask.Task.TheVariants.{Create, On, Read, Rescue, Print, Repack, Restore, Backup, Verify, Turns, Session, Generate}
+use Rattle.tdb_cmdline.specs.declared.ask.Task.TheVariants.{Create, On, Read, Rescue, Print, Repack, Restore, Backup, Verify, Convert, Turns, Session, Generate}
 use Rattle.tdb_answer.specs.declared.ending.Ending.{Ending}
 use Rattle.tdb_answer.specs.declared.ending.Ending.TheVariants.{Replied, Refused, Missing, There, Usage, DeviceFault, InputFault, Malformed, NoMemory, LogFault}
 use Rattle.tdb_answer.specs.declared.ending.Unprinted.{Unprinted}
@@ -23,6 +23,7 @@ use Rattle.tdb_answer.specs.Looks.{LookText, StandsBefore, before_reply, rest_of
 use Rattle.tdb_cmdline.specs.declared.printout.Printout.{Printout}
 use Rattle.tdb_answer.specs.Commands.Print.{PrintText}
 use Rattle.tdb_answer.specs.Commands.Rescue.{RescueText}
+use Rattle.tdb_answer.specs.Commands.Convert.{converted_line}
 use Rattle.tdb_answer.specs.Commands.Session.{SessionText}
 use Rattle.tdb_answer.specs.Commands.Turns.{TurnsText}
 use Rattle.tdb_commands.specs.declared.options.Options.{Options}
@@ -36,7 +37,7 @@ reply_wanting text written (R.Value value) takes is = is
 reply_wanting text written (R.Escaped value) takes is = is
 reply_wanting text written R.Dumped takes is = absurd (false≢true takes)
 reply_wanting text written R.Restored takes is = is
-reply_wanting text written R.Copied takes is = is
+reply_wanting text written R.Copied takes is = absurd (false≢true takes)
 reply_wanting text written R.Verified takes is = is
 reply_wanting text written R.Played takes is = is
 reply_wanting text written R.Closed takes is = is
@@ -115,6 +116,7 @@ task_wanting (Read look) name held written t takes text = look_wanting look (hel
 task_wanting Rescue name held written t takes text = rescue_wanting (held name) written t takes text
 task_wanting (Print printout limit) name held written t takes text = print_wanting printout (held name) written t takes text
 task_wanting (Repack limit) name held written t takes text = text
+task_wanting (Convert new made prefix) name held written t takes text = stands_wanting converted_line written t takes text
 
 text_wanting : (ask : Option Ask) (held : List ℕ → Option History) (written : List ℕ) (t : Ending) → TakesMemory t → TextBefore ask held t written → TextBefore ask held NoMemory written
 text_wanting None held written t takes text = text
@@ -155,6 +157,7 @@ task_nothing (Read look) name held = look_nothing look (held name)
 task_nothing Rescue name held = rescue_nothing (held name)
 task_nothing (Print printout limit) name held = print_nothing printout (held name)
 task_nothing (Repack limit) name held = refl
+task_nothing (Convert new made prefix) name held = (0, refl)
 
 pub nothing_before : (ask : Option Ask) (held : List ℕ → Option History) → TextBefore ask held NoMemory []
 nothing_before None held = refl
@@ -182,6 +185,7 @@ task_heard (Generate commands seed) files output told = told
 task_heard Rescue files output told = and_left output files told
 task_heard (Print printout limit) files output told = and_left output files told
 task_heard (Repack limit) files output told = told
+task_heard (Convert new made prefix) files output told = told
 task_heard (Read (Value key)) files output told = told
 task_heard (Read Dump) files output told = and_left output files told
 

@@ -84,6 +84,7 @@ fn finish<K: Sink>(alloc: Global, answered: &Result<Ending, Unprinted>, output: 
 /// |---|---|---|
 /// | 0 | the value of the key is shown | `data(N) = "TEXT"` |
 /// | 0 | the key is added, stored or deleted, all keys are taken out, or the file is made, or written anew | `ok` |
+/// | 0 | a new file is made of the pairs of another one | `ok` |
 /// | 0 | the file is accepted, and has `N` keys | `number N` |
 /// | 0 | all pairs are printed, or all keys | their dump text, a line for each key |
 /// | 0 | it is told what the file holds | its numbers, its chains and their records, or its free records |
@@ -101,7 +102,7 @@ fn finish<K: Sink>(alloc: Global, answered: &Result<Ending, Unprinted>, output: 
 /// | 1 | there is no transaction to commit or to cancel | `notransaction` |
 /// | 2 | the words ask for nothing | the usage |
 /// | 3 | the file is refused for a fault of its header, or for another fault | `header KIND`, `corrupt WHAT AT` |
-/// | 3 | a dump, or turns that only read, would have to undo a change first | `needs recovery` |
+/// | 3 | a dump, a conversion, or turns that only read, would have to undo a change first | `needs recovery` |
 /// | 4 | a call of the files or of a disk failed | `device fault` |
 /// | 5 | memory was wanting | `memory` |
 /// | 6 | the file of `LEN` bytes has no room for `NEED` more, or is too long itself | `full LEN NEED`, `toolong LEN` |
@@ -135,6 +136,10 @@ fn finish<K: Sink>(alloc: Global, answered: &Result<Ending, Unprinted>, output: 
 /// The command `tool FILE repack` opens the file as a show does, makes a new file of its form at FILE and `.tmp`, adds
 /// each pair without looking its key up, writes the sequence number, syncs, and renames the new file to FILE: time is
 /// linear in the file. It holds one pair, and 4 bytes for each record.
+///
+/// The command `convert FILE NEW` opens FILE as a dump does, unless it has more bytes than NEW may have, makes NEW as
+/// `create` does, and adds the pairs as a repack does: time and memory are those of one. Where the output doesn't take
+/// the line that tells it, NEW is removed.
 ///
 /// The command `restore FILE` makes a file as `create` does, reads the input in pieces of 64 KiB, adds each pair
 /// without looking its key up, and syncs: time is linear in the text and in the file. It holds all keys, so as to

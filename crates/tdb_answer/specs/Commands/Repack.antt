@@ -1,6 +1,6 @@
 -- The command that writes a file anew: why it ends, and what it leaves at the name of the file and at the one at which it
 -- makes the new file.
-use Rattle.std.specs.Prelude.{◌≡◌, ◌≢◌, ◌⊎◌, ◌≤◌, ℕ, Option, None, Some, List, [], length}
+use Rattle.std.specs.Prelude.{◌≡◌, ◌⊎◌, ◌≤◌, ℕ, Option, None, Some, List, [], length}
 use Rattle.tdb_disk.specs.History.{History, seen}
 use Rattle.tdb_space.specs.Form.{form_of}
 use Rattle.tdb_cmdline.specs.CopyNames.{temporary_name}

@@ -1,5 +1,5 @@
 -- Files that are written anew from the pairs of an opened one: what such a file is, and why it isn't written to its end.
-use Rattle.std.specs.Prelude.{◌≡◌, ℕ, Option, None, Some, List, [], Result, Ok, Err}
+use Rattle.std.specs.Prelude.{◌≡◌, ℕ, Option, None, Some, List, Result, Ok, Err}
 use Rattle.tdb_words.specs.declared.word.Order.{Order}
 use Rattle.tdb_words.specs.Header.{sequence_at, sequence_of}
 use Rattle.tdb_words.specs.Word.{word}
@@ -53,6 +53,13 @@ NotWrittenTo img prefix f limit (Replied reply) now = IsFullFor img prefix f lim
 NotWrittenTo img prefix f limit DeviceFault now = Unit {0}
 NotWrittenTo img prefix f limit NoMemory now = now ≡ None
 NotWrittenTo img prefix f limit _ now = ⊥
+
+-- the endings of such a writing: no other reply than that there is no room
+abbrev pub EndsUnwritten : Ending → Type 0
+EndsUnwritten (Replied reply) = (len : ℕ) × (need : ℕ) × (reply ≡ Full len need)
+EndsUnwritten DeviceFault = Unit {0}
+EndsUnwritten NoMemory = Unit {0}
+EndsUnwritten _ = ⊥
 
 -- how a file was written anew, or wasn't
 abbrev pub anew_ending : Result (Unit {0}) Ending → Ending

@@ -1,6 +1,6 @@
 // A file is written anew from the pairs of an opened one.
 
-ghost use Rattle.std.specs.Prelude.{◌≡◌, ◌≢◌, ◌<◌, ◌≤◌, ◌+◌, ◌*◌, ◌^◌, List, false, true, IsTrue, IfOk, IfErr, OnOk};
+ghost use Rattle.std.specs.Prelude.{◌≡◌, ◌<◌, ◌≤◌, ◌+◌, ◌*◌, ◌^◌, false, true, IsTrue, IfErr, OnOk};
 ghost use Rattle.tdb_disk.specs.Count.{HasCause, HasCauseOf};
 ghost use Rattle.tdb_disk.specs.History.{seen};
 ghost use Rattle.tdb_disk.specs.Names.{SameBut};
@@ -10,10 +10,8 @@ ghost use Rattle.tdb_backup.specs.declared.refusal.CopyRefusal.TheVariants.{Read
 ghost use Rattle.tdb_rewrite.specs.Rewritten.{Rewritten, chosen};
 ghost use Rattle.tdb_open.specs.Creating.{IsNewFile};
 ghost use Rattle.tdb_open.specs.Opening.{IsCheckedOn};
-ghost use Rattle.tdb_answer.specs.declared.ending.Ending.TheVariants.{Usage};
 ghost use Rattle.tdb_answer.specs.Commands.Backup.{CountedBoth};
-ghost use Rattle.tdb_answer.specs.Commands.Restore.{of_input};
-ghost use Rattle.tdb_answer.specs.Commands.Rewriting.{made_form, IsNotWritten, GotSequence, IsWrittenAnew, HoldsAnew, NotWrittenTo, anew_ending};
+ghost use Rattle.tdb_answer.specs.Commands.Rewriting.{made_form, IsNotWritten, GotSequence, IsWrittenAnew, HoldsAnew, NotWrittenTo, EndsUnwritten, anew_ending};
 
 use crate::ending::Ending;
 use std::alloc::Global;
@@ -116,8 +114,7 @@ pub(crate) fn write_to<F: Files>(
     requires taken { F.is_taken files.old name.now ≡ true }
     ensures written { OnOk result (IsTrue F.D.tells → HoldsAnew (seen (F.D.history from.old)) prefix.now (made_form file.form) (F.held files.new name.now)) }
     ensures refused { IfErr result (λ e. IsTrue F.D.tells → NotWrittenTo (seen (F.D.history from.old)) prefix.now (made_form file.form) file.limit e (F.held files.new name.now)) }
-    ensures asked { IfErr result (λ e. e ≢ Usage) }
-    ensures unread { IfErr result (λ e. of_input e ≡ false) }
+    ensures known { IfErr result EndsUnwritten }
     ensures kept { F.D.history from.new ≡ F.D.history from.old }
     ensures counted { CountedBoth (F.D.faults from.old) (F.D.faults from.new) (F.faults files.old) (F.faults files.new) (anew_ending result) }
     ensures others { SameBut name.now (F.held files.old) (F.held files.new) }

@@ -1,28 +1,31 @@
-use Rattle.std.proofs.Common.{◌≡◌, ◌∷◌, ℕ, List, Ok, string_bytes, refl, sym, ◌∙◌, subst, inl}
+use Rattle.std.proofs.Common.{◌≡◌, ◌∷◌, ℕ, List, Ok, string_bytes, refl, sym, ◌∙◌, ap, subst, inl, inr}
 use Rattle.std.specs.Prelude.{IsTrue}
 use Rattle.tdb_disk.specs.Count.{Rose}
 use Rattle.tdb_commands.specs.declared.options.Options.{Options}
 use Rattle.tdb_answer.specs.Commands.Create.{CreateCause, CreateLeaves}
 use Rattle.tdb_answer.specs.Ending.{MadeSo}
 use Rattle.tdb_answer.specs.Input.{input_by}
-use Rattle.tdb_answer.specs.Reads.{AskEnds, GenCause}
-use Rattle.tdb_answer.specs.Left.{TaskLeaves}
+use Rattle.tdb_answer.specs.Reads.{AskCause, AskEnds, GenCause}
+use Rattle.tdb_answer.specs.Left.{TaskLeaves, SameElse}
 use Rattle.tdb_cmdline.specs.CopyNames.{temporary_name}
 use Rattle.tdb_answer.specs.Commands.Backup.{BackupCause}
 use Rattle.tdb_answer.specs.Commands.Repack.{RepackLeaves}
-use Rattle.tdb_cmdline.specs.declared.ask.Task.TheVariants.{Turns, Verify}
+use Rattle.tdb_answer.specs.Commands.Convert.{ConvertLeaves, converted_line}
+use Rattle.tdb_cmdline.specs.declared.ask.Task.{Task}
+use Rattle.tdb_cmdline.specs.declared.ask.Task.TheVariants.{Turns, Verify, Convert}
 use Rattle.tdb_answer.specs.declared.ending.Ending.TheVariants.{Replied}
 use Rattle.tdb_answer.specs.declared.ending.Reply.TheVariants.{Played}
 use Rattle.tdb_answer.specs.Commands.Generate.{GenHeard}
 use Rattle.tdb_answer.specs.Commands.Verify.{VerifyText, VerifyCause}
-use Rattle.tdb_answer.specs.Looks.{ending_of, Began}
+use Rattle.tdb_answer.specs.Looks.{ending_of, Began, StandsBefore}
 use Rattle.tdb_answer.specs.Printed.{TaskText, task_tells}
-use Rattle.tdb_answer.specs.Heard.{TaskHeard, VerifyHeard}
+use Rattle.tdb_answer.specs.Heard.{TaskHeard, VerifyHeard, ConvertHeard}
 use Rattle.tdb_answer.specs.Stops.{StopsScripted}
 use Rattle.tdb_answer.proofs.Looking.{began_as}
 use Rattle.tdb_answer.proofs.Acting.{made_cause, made_left, backup_ends, verify_ends, gen_ends}
 use Rattle.tdb_answer.proofs.Unlogged.{made_unlogged}
 use Rattle.tdb_answer.proofs.Repacking.{repack_ends}
+use Rattle.tdb_answer.proofs.Converting.{convert_ends}
 use Rattle.tdb_answer.proofs.answering.answer_ask.Goals as goal
 
 -- why a file was made, or wasn't
@@ -53,6 +56,14 @@ returns-in-Create-clause-left g c told =
     (subst (λ n. CreateCause file (held n) before now creation) c.as_str-name.ensures.value (c.create_file-creation.ensures.cause told))
     (subst (λ n. CreateLeaves file.form (held n) creation (given n)) c.as_str-name.ensures.value (c.create_file-creation.ensures.left told))
     (subst (λ n. MadeSo n creation c.made.result) c.as_str-name.ensures.value c.made.ensures))
+
+-- why a file was restored, or wasn't
+pub returns-in-Restore-clause-cause : goal.returns-in-Restore-clause-cause
+returns-in-Restore-clause-cause g c told =
+    let held = g.F.Files.held c.args.files.now in
+    let input = input_by g.S.Source.tells (g.S.Source.left c.args.input.now) (g.S.Source.faults c.args.input.now) (g.S.Source.faults c.restore_file.new.input) in
+    let is = sym c.in-Restore.is in
+    inl (subst (λ (q : Task × List ℕ). AskCause input q.0 q.1 (held q.1) (g.F.Files.faults c.args.files.now) (g.F.Files.faults c.restore_file.new.files) c.restore_file.result) (λ j. (is j, c.as_str-name.ensures.value j)) (c.restore_file.ensures.cause told))
 
 -- why files were backed up, or weren't
 pub returns-in-Backup-clause-cause : goal.returns-in-Backup-clause-cause
@@ -110,6 +121,60 @@ returns-in-Repack-clause-left g c told =
     subst (λ task. TaskLeaves (input_by g.S.Source.tells (g.S.Source.left c.args.input.now) (g.S.Source.faults c.args.input.now) (g.S.Source.faults c.args.input.now)) task name held e given) (sym c.in-Repack.is)
     (subst (λ n. RepackLeaves limit n held e given) c.as_str-name.ensures.value (c.repack.ensures.left told))
 
+-- nothing changed at other names
+pub returns-in-Repack-clause-others : goal.returns-in-Repack-clause-others
+returns-in-Repack-clause-others g c =
+    let held = g.F.Files.held c.args.files.now in
+    let given = g.F.Files.held c.repack.new.files in
+    subst (λ task. SameElse task (string_bytes c.args.ask.now.file) held given) (sym c.in-Repack.is)
+    (λ other apart. c.repack.ensures.others other (λ is. apart (inl (is ∙ c.as_str-name.ensures.value))) (λ is. apart (inr (is ∙ ap temporary_name c.as_str-name.ensures.value))))
+
+-- another file has another name
+pub convert-requires-clause-differ : goal.convert-requires-clause-differ
+convert-requires-clause-differ g c is =
+    let fits = rw c.in-Convert.is at c.requires.fits in
+    fits.0 (sym c.as_str-in-Convert.ensures ∙ is ∙ c.as_str-name.ensures.value)
+
+-- why another file was made of the pairs of one, or wasn't
+pub returns-in-Convert-clause-cause : goal.returns-in-Convert-clause-cause
+returns-in-Convert-clause-cause g c told =
+    let held = g.F.Files.held c.args.files.now in
+    let given = g.F.Files.held c.convert.new.files in
+    let e = ending_of c.convert.result in
+    convert_ends (input_by g.S.Source.tells (g.S.Source.left c.args.input.now) (g.S.Source.faults c.args.input.now) (g.S.Source.faults c.args.input.now)) c.args.ask.now.task c.in-Convert.made c.in-Convert.prefix c.in-Convert.new (string_bytes c.args.ask.now.file) held
+    (g.F.Files.faults c.args.files.now) (g.F.Files.faults c.convert.new.files) c.in-Convert.is e (given c.in-Convert.new)
+    (subst (λ (q : List ℕ × (List ℕ × List ℕ)). ConvertLeaves c.in-Convert.made q.1.1 q.0 q.1.0 (held q.0) (held q.1.0) e (given q.1.0)) (λ j. (c.as_str-name.ensures.value j, (c.as_str-in-Convert.ensures j, c.as_slice-in-Convert.ensures j))) (c.convert.ensures.left told))
+    c.convert.ensures.counted
+
+-- and what is left at the names of both
+pub returns-in-Convert-clause-left : goal.returns-in-Convert-clause-left
+returns-in-Convert-clause-left g c told =
+    let held = g.F.Files.held c.args.files.now in
+    let given = g.F.Files.held c.convert.new.files in
+    let e = ending_of c.convert.result in
+    subst (λ task. TaskLeaves (input_by g.S.Source.tells (g.S.Source.left c.args.input.now) (g.S.Source.faults c.args.input.now) (g.S.Source.faults c.args.input.now)) task (string_bytes c.args.ask.now.file) held e given) (sym c.in-Convert.is) (
+      subst (λ n. given n ≡ held n) c.as_str-name.ensures.value (c.convert.ensures.kept told),
+      subst (λ (q : List ℕ × (List ℕ × List ℕ)). ConvertLeaves c.in-Convert.made q.1.1 q.0 q.1.0 (held q.0) (held q.1.0) e (given q.1.0)) (λ j. (c.as_str-name.ensures.value j, (c.as_str-in-Convert.ensures j, c.as_slice-in-Convert.ensures j))) (c.convert.ensures.left told),
+    )
+
+pub returns-in-Convert-clause-others : goal.returns-in-Convert-clause-others
+returns-in-Convert-clause-others g c =
+    let held = g.F.Files.held c.args.files.now in
+    let given = g.F.Files.held c.convert.new.files in
+    subst (λ task. SameElse task (string_bytes c.args.ask.now.file) held given) (sym c.in-Convert.is)
+    (λ other apart. c.convert.ensures.others other (λ is. apart (inl (is ∙ c.as_str-name.ensures.value))) (λ is. apart (inr (is ∙ c.as_str-in-Convert.ensures))))
+
+-- and what was printed of it
+pub returns-in-Convert-clause-began : goal.returns-in-Convert-clause-began
+returns-in-Convert-clause-began g c =
+    let held = g.F.Files.held c.args.files.now in
+    let before = g.K.Sink.written c.args.output.now in
+    let now = g.K.Sink.written c.convert.new.output in
+    let r = c.convert.result in
+    let name = string_bytes c.args.ask.now.file in
+    subst (λ t. IsTrue (task_tells t g.F.D.Disk.tells g.K.Sink.tells) → Began (TaskText t name held) before now r) (sym c.in-Convert.is)
+    (λ told. began_as (StandsBefore converted_line) (TaskText (Convert c.in-Convert.new c.in-Convert.made c.in-Convert.prefix) name held) before now r (λ e text is. is) (c.convert.ensures.began told))
+
 -- why generated commands ended so
 pub returns-in-Generate-clause-cause : goal.returns-in-Generate-clause-cause
 returns-in-Generate-clause-cause g c told =
@@ -155,6 +220,17 @@ returns-in-Verify-clause-told g c told =
     let later = g.L.Logs.logs c.verify.new.logs in
     subst (λ t. TaskHeard t (string_bytes c.args.ask.now.file) held now e logs later) (sym c.in-Verify.is)
     (subst (λ (q : List ℕ × (List ℕ × List (List ℕ))). VerifyHeard q.0 (q.1.0 ∷ q.1.1) held e logs later) (λ j. (c.as_str-in-Verify.ensures j, (c.as_str-name.ensures.value j, c.as_slice-in-Verify.ensures j))) (c.verify.ensures.heard told))
+
+-- of a file of whose pairs another one was to be made
+pub returns-in-Convert-clause-told : goal.returns-in-Convert-clause-told
+returns-in-Convert-clause-told g c told =
+    let held = g.F.Files.held c.args.files.now in
+    let now = g.F.Files.held c.convert.new.files in
+    let e = ending_of c.convert.result in
+    let logs = g.L.Logs.logs c.args.logs.now in
+    let later = g.L.Logs.logs c.convert.new.logs in
+    subst (λ t. TaskHeard t (string_bytes c.args.ask.now.file) held now e logs later) (sym c.in-Convert.is)
+    (subst (λ n. ConvertHeard c.in-Convert.made.limit (held n) e logs later) c.as_str-name.ensures.value (c.convert.ensures.heard told))
 
 -- and of generated commands
 pub returns-in-Generate-clause-told : goal.returns-in-Generate-clause-told

@@ -3,7 +3,7 @@ use Rattle.std.proofs.lemmas.Result.{on_ok_weaker, IfErr-weaker}
 use Rattle.tdb_disk.specs.History.{seen}
 use Rattle.tdb_space.specs.Form.{form_in}
 use Rattle.tdb_answer.specs.Commands.Rewriting.{HoldsAnew, NotWrittenTo}
-use Rattle.tdb_answer.proofs.BackingUp.{files_alone}
+use Rattle.tdb_answer.proofs.Rewriting.{unwritten_asked, unwritten_unread}
 use Rattle.tdb_answer.proofs.Repacking.{untaken_unmade, untaken_asked, untaken_unread, unwritten_unmade}
 use Rattle.tdb_answer.proofs.commands.repack.repack_to.Goals as goal
 
@@ -26,6 +26,12 @@ returns-clause-refused g c = IfErr-weaker c.write_to.result _ _ (λ e left told.
     unwritten_unmade c.args.limit img e (g.F.Files.held c.args.files.now c.args.name.now) now
     (subst (λ f. NotWrittenTo img [] f c.args.limit e now) (ap form_in (c.requires.opened told).header) (left told))))
     c.write_to.ensures.refused
+
+pub returns-clause-asked : goal.returns-clause-asked
+returns-clause-asked g c = IfErr-weaker c.write_to.result _ _ unwritten_asked c.write_to.ensures.known
+
+pub returns-clause-unread : goal.returns-clause-unread
+returns-clause-unread g c = IfErr-weaker c.write_to.result _ _ unwritten_unread c.write_to.ensures.known
 
 -- it wasn't taken
 pub returns-in-Err-clause-refused : goal.returns-in-Err-clause-refused

@@ -1,6 +1,6 @@
-use Rattle.std.proofs.Common.{◌≡◌, length, ◌∙◌, ap, arith}
+use Rattle.std.proofs.Common.{length, ◌∙◌, ap, arith}
 use Rattle.std.proofs.lemmas.Result.{on_ok_weaker}
-use Rattle.tdb_disk.specs.History.{seen, called, synced}
+use Rattle.tdb_disk.specs.History.{called, synced}
 use Rattle.tdb_space.proofs.Exchange.Overlaid.{word_length}
 use Rattle.tdb_answer.proofs.Rewriting.{got_sequence}
 use Rattle.tdb_answer.proofs.commands.rewriting.set_sequence.Goals as goal

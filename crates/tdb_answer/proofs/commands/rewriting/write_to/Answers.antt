@@ -1,7 +1,6 @@
-use Rattle.std.proofs.Common.{refl}
 use Rattle.tdb_disk.specs.History.{seen}
 use Rattle.tdb_answer.specs.Commands.Rewriting.{made_form}
-use Rattle.tdb_answer.proofs.Rewriting.{removed_unwritten, refused_asked, refused_unread}
+use Rattle.tdb_answer.proofs.Rewriting.{removed_unwritten, refused_unwritten}
 use Rattle.tdb_answer.proofs.commands.rewriting.write_to.Goals as goal
 
 -- it was written to its end
@@ -14,8 +13,5 @@ returns-in-Ok-remove-clause-refused g c told =
     removed_unwritten (seen (g.F.D.Disk.history c.args.from.now)) c.args.prefix.now (made_form c.args.file.form) c.args.file.limit (g.F.Files.held c.remove.new.self c.args.name.now) (c.in-Ok-remove.ensures.gone told)
     c.in-Err.refusal c.from.result c.from.ensures (c.in-Err.ensures.refused told)
 
-pub returns-in-Ok-remove-clause-asked : goal.returns-in-Ok-remove-clause-asked
-returns-in-Ok-remove-clause-asked g c = refused_asked c.in-Err.refusal c.from.result c.from.ensures
-
-pub returns-in-Ok-remove-clause-unread : goal.returns-in-Ok-remove-clause-unread
-returns-in-Ok-remove-clause-unread g c = refused_unread c.in-Err.refusal c.from.result c.from.ensures
+pub returns-in-Ok-remove-clause-known : goal.returns-in-Ok-remove-clause-known
+returns-in-Ok-remove-clause-known g c = refused_unwritten c.in-Err.refusal c.from.result c.from.ensures
