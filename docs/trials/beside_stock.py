@@ -2,7 +2,7 @@
 """Runs each command beside a process of the stock library, and prints a table of what came.
 
 As root each command is run as root and as `nobody`; the stock process is root's. Behind a command stands in how many of
-its rounds that came, where it wasn't in each. Usage: beside_stock.py PROGRAM [ROUNDS]
+its rounds that came, where it wasn't in each. Usage: beside_stock.py PROGRAM [ROUNDS [COMMAND ..]]
 """
 
 import os, re, shutil, sys, tempfile
@@ -30,14 +30,20 @@ COMMANDS = {
     "storehex": (["tool", "f.tdb", "storehex", "6d696e65", "31"], "", [b"mine"], []),
     "delete": (["tool", "f.tdb", "delete", "key0"], "", [], [b"key0"]),
     "insert": (["tool", "f.tdb", "insert", "mine", "1"], "", [b"mine"], []),
+    "erase": (["tool", "f.tdb", "erase"], "", [], []),
+    "repack": (["tool", "f.tdb", "repack"], "", [], []),
     "transaction": (["tool", "f.tdb"], IN_TRANSACTION, [b"mine"], []),
     "turns": (["turns", "f.tdb"], "open\ndo 1 store mine 1\n", [b"mine"], []),
     "backup": (["backup", "f.tdb"], "", [], []),
     "backup -v": (["backup", "-v", "f.tdb"], "", [], []),
+    "convert": (["convert", "f.tdb", "n.tdb"], "", [], []),
     "create": (["tool", "f.tdb", "create"], "", [], []),
     "restore": (["restore", "f.tdb"], DUMP, [], []),
     "gen": (["gen", "10", "1", "f.tdb"], "", [], []),
 }
+
+# The copy that a command makes.
+COPIES = {"backup": "f.tdb.bak", "convert": "n.tdb"}
 
 # What is told on standard error, and the word for it in the table.
 TOLD = {
@@ -53,9 +59,9 @@ def is_done(name, ran):
     return ran.returncode == 0 and ran.stdout.endswith(wanted)
 
 
-def lost_in_copy():
+def lost_in_copy(name):
     """What a copy lacks that was in the file before the stock process began."""
-    copy = opened("f.tdb.bak")
+    copy = opened(name)
     return ["the copy lacks key%d" % n for n in range(KEYS) if copy.get(b"key%d" % n) is None]
 
 
@@ -69,15 +75,17 @@ def beside(state, name, user):
     ran = run(*words, data=data, user=user)
     stock.end()
     if is_done(name, ran):
-        answer, lost = "done", stock.lost(there, gone)
-        lost += lost_in_copy() if name == "backup" else []
+        answer = "done"
+        lost = stock.lost_behind_erase() if name == "erase" else stock.lost(there, gone)
+        lost += lost_in_copy(COPIES[name]) if name in COPIES else []
     else:
         # Which fault is met first, and where, hangs on the moment.
         answer = "`%s`" % re.sub("^corrupt .*", "corrupt ..", ran.stdout.strip().split("\n")[-1][:40])
         lost = stock.lost(gone=there)
     lines = ran.stderr.replace(str(stock.process), "N").splitlines()
     told = ", ".join(TOLD.get(line, line) for line in lines)
-    left = sorted(set(os.listdir(".")) - {"f.tdb", "f.tdb.bak"})
+    made = {COPIES[name]} if answer == "done" and name in COPIES else set()
+    left = sorted(set(os.listdir(".")) - {"f.tdb", "f.tdb.bak"} - made)
     return answer, told, ", ".join(lost[:3] + left) or "nothing"
 
 
@@ -93,7 +101,7 @@ def main():
     for state in STATES:
         for user in users:
             seen = {}
-            for name in COMMANDS:
+            for name in sys.argv[3:] or COMMANDS:
                 for _ in range(ROUNDS):
                     counts = seen.setdefault(beside(state, name, user), {})
                     counts[name] = counts.get(name, 0) + 1

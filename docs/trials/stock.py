@@ -122,17 +122,37 @@ class Stock:
         keys = {b"loop%d" % n for n in range(self.done)} | {b"key%d" % n for n in range(KEYS)}
         return keys | {b"stock"} if self.begin in (in_transaction, prepared) else keys
 
-    def lost(self, there=(), gone=()):
-        """What isn't as it should be: its end, its keys and these that are to be there, and these that aren't."""
+    def looked(self, look):
+        """What isn't as it should be: its end, what `look` finds in the file, and what the stock tool finds."""
         found = [] if self.status == 0 else ["the process ended with %d" % self.status]
         try:
             after = opened()
-            found += [key.decode() for key in sorted(self.committed() - set(gone)) if after.get(key) is None]
-            found += [key.decode() for key in there if after.get(key) is None]
-            found += [key.decode() + " is there" for key in gone if after.get(key) is not None]
+            found += look(after)
             after.close()
             checked = subprocess.run(["tdbtool", "f.tdb", "check"], capture_output=True, text=True)
             found += [] if "integrity is OK" in checked.stdout else ["tdbtool's check: " + checked.stdout.strip()]
         except (OSError, RuntimeError) as error:
             found.append(str(error))
         return found
+
+    def lost(self, there=(), gone=()):
+        """What isn't as it should be, its keys and these that are to be there, and these that aren't."""
+
+        def look(after):
+            wanted = sorted(self.committed() - set(gone)) + list(there)
+            found = [key.decode() for key in wanted if after.get(key) is None]
+            return found + [key.decode() + " is there" for key in gone if after.get(key) is not None]
+
+        return self.looked(look)
+
+    def lost_behind_erase(self):
+        """The same where all pairs were erased meanwhile: of the keys of its loop the last are there, and none before."""
+
+        def look(after):
+            loop = [b"loop%d" % n for n in range(self.done)]
+            first = next((n for n, key in enumerate(loop) if after.get(key) is not None), self.done)
+            erased = sorted(self.committed() - set(loop)) + [b"first"]
+            found = [key.decode() + " is there" for key in erased if after.get(key) is not None]
+            return found + [key.decode() for key in loop[first:] if after.get(key) is None]
+
+        return self.looked(look)
