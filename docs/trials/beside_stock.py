@@ -97,7 +97,7 @@ def main():
     users = [None, "nobody"] if os.geteuid() == 0 else [None]
     for line, word in TOLD.items():
         print("- %s: `%s`" % (word, line))
-    print("\n| The stock process | User | Commands | Answer | Standard error | Lost |\n|---|---|---|---|---|---|")
+    print("\n| The stock process | User | Commands | Answer | Standard error | Lost or left |\n|---|---|---|---|---|---|")
     for state in STATES:
         for user in users:
             seen = {}
