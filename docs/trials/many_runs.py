@@ -20,6 +20,8 @@ MAKERS = {
     "backup": (["backup", "f.tdb"], False, "f.tdb.bak", None),
     "backup, over an old copy": (["backup", "f.tdb"], False, "f.tdb.bak", "old.tdb"),
     "backup -v, of a cut file": (["backup", "-v", "g.tdb"], False, "g.tdb", "cut.tdb"),
+    "convert": (["convert", "f.tdb", "new.tdb", "7", "jenkins", "big"], False, "new.tdb", None),
+    "repack, of a file with free records": (["tool", "g.tdb", "repack"], False, "g.tdb", "wide.tdb"),
 }
 
 # What a whole run makes, by maker.
@@ -44,7 +46,7 @@ def stores_at_once():
 def set_up(maker):
     """The folder as it is before the run, and its input."""
     _, has_input, file, before = MAKERS[maker]
-    for name in set(os.listdir(".")) - {"f.tdb", "old.tdb", "cut.tdb", "g.tdb.bak", "dump", "trace"}:
+    for name in set(os.listdir(".")) - {"f.tdb", "old.tdb", "cut.tdb", "wide.tdb", "g.tdb.bak", "dump", "trace"}:
         os.unlink(name)
     if before:
         shutil.copy(before, file)
@@ -124,6 +126,9 @@ def main():
     shutil.copy("f.tdb", "g.tdb.bak")
     shutil.copy("f.tdb", "cut.tdb")
     os.truncate("cut.tdb", 4000)
+    shutil.copy("f.tdb", "wide.tdb")
+    for n in range(0, STORES, 3):
+        run("tool", "wide.tdb", "delete", "k%d" % n)
     for maker, (words, _, file, _) in MAKERS.items():
         after(maker)
         WHOLE[maker] = run("dump", file).stdout
