@@ -11,16 +11,15 @@ use Rattle.std.proofs.lemmas.Map.Made.{IsDistinct-keys_filter}
 use Rattle.tdb_words.specs.Word.{word}
 use Rattle.tdb_space.specs.Accepted.{AcceptWith, AllFiled}
 use Rattle.tdb_space.specs.Chain.{Linked, chain_of}
-use Rattle.tdb_space.specs.Extents.{HandPair}
 use Rattle.tdb_space.specs.Form.{Form, chain_head}
 use Rattle.tdb_space.specs.NewRecord.{rec_len_for}
 use Rattle.tdb_space.specs.Pairs.{joined, pair_of, pairs, map_of, order_of, same_key, home}
+use Rattle.tdb_rewrite.specs.Readable.{Readable}
 use Rattle.tdb_space.proofs.Pairs.Listed.{pairs-append, pairs-push}
 use Rattle.tdb_check.specs.Report.{chained}
 use Rattle.tdb_space.specs.Record.{IsChained}
 use Rattle.tdb_space.proofs.Accepted.Laid.{accepted_filed}
 use Rattle.tdb_space.proofs.Pairs.Maps.{same_key-eq, same_key-refl, same_key-other, map_home, home_below}
-use Rattle.tdb_space.proofs.Pairs.Orders.{order_distinct}
 use Rattle.tdb_chain.specs.declared.refusal.ValueRefusal as Value
 use Rattle.tdb_free.specs.Growth.{usual_length, grown_length}
 use Rattle.tdb_backup.specs.Building.{of_read, of_insert}
@@ -134,11 +133,11 @@ stand_chain : (f : Form) (img : List ℕ) (j at : ℕ) (xs : List ℕ) → Linke
 stand_chain f img j at [] l filed = tt
 stand_chain f img j at (x ∷ xs) l filed = ((l.1, λ used. (filed.0 used).fits), stand_chain f img j (word f.order img x) xs l.3 filed.1)
 
-stand_joined : (f : Form) (img : List ℕ) (hands : List HandPair) → AcceptWith f img hands → (n : ℕ) → n ≤ f.chains → AllStand f img (joined n (chain_of f img))
-stand_joined f img hands A zero low = tt
-stand_joined f img hands A (suc n) low =
-    stand_both f img (joined n (chain_of f img)) (chain_of f img n) (stand_joined f img hands A n (omega (arith, low)))
-    (stand_chain f img n (word f.order img (chain_head n)) (chain_of f img n) (A.chains n (omega (arith, low))) (A.filed n (omega (arith, low))))
+stand_joined : (f : Form) (img : List ℕ) → Readable f img → (n : ℕ) → n ≤ f.chains → AllStand f img (joined n (chain_of f img))
+stand_joined f img R zero low = tt
+stand_joined f img R (suc n) low =
+    stand_both f img (joined n (chain_of f img)) (chain_of f img n) (stand_joined f img R n (omega (arith, low)))
+    (stand_chain f img n (word f.order img (chain_head n)) (chain_of f img n) (R.chains n (omega (arith, low))) (R.filed n (omega (arith, low))))
 
 -- The records at some offsets are still to be copied, and the pairs of those that were are held: with the others they are
 -- all that are chosen.
@@ -148,9 +147,9 @@ pub record Ahead (f : Form) (img prefix : List ℕ) (g : Form) (b offs : List �
   pub split : chosen prefix (order_of f img) ≡ chosen prefix (pairs f.order img offs) ++ done
   pub holds : Rewritten g b done
 
-pub ahead_first : (f : Form) (img prefix : List ℕ) (g : Form) (b offs : List ℕ) (hands : List HandPair) → AcceptWith f img hands → IsBare g b → offs ≡ chained f img → Ahead f img prefix g b offs
-ahead_first f img prefix g b offs hands A bare all = record {
-  stand = subst (AllStand f img) (sym all) (stand_joined f img hands A f.chains (omega arith));
+pub ahead_first : (f : Form) (img prefix : List ℕ) (g : Form) (b offs : List ℕ) → Readable f img → IsBare g b → offs ≡ chained f img → Ahead f img prefix g b offs
+ahead_first f img prefix g b offs R bare all = record {
+  stand = subst (AllStand f img) (sym all) (stand_joined f img R f.chains (omega arith));
   done = [];
   split = sym (ap (λ xs. chosen prefix (pairs f.order img xs)) all ∙ ap (chosen prefix) (joined_pairs f img f.chains)) ∙ sym (append-nil (chosen prefix (pairs f.order img offs)));
   holds = rewritten_bare g b bare;
@@ -176,9 +175,9 @@ module _ (f : Form) (img prefix : List ℕ) (g : Form) (b offs : List ℕ) (h : 
         ∙ append_assoc (chosen prefix (pairs f.order img rest)) (chosen prefix (pair_of f.order img off)) h.done
 
     -- its key is new
-    pub next_new : (hands : List HandPair) → AcceptWith f img hands → AreNew (chosen prefix (pair_of f.order img off)) h.done
-    next_new hands A =
-        let differ = IsDistinct-keys_filter same_key (λ p. starts_with nat_eq p.0 prefix) (order_of f img) (order_distinct f img hands A) in
+    pub next_new : Readable f img → AreNew (chosen prefix (pair_of f.order img off)) h.done
+    next_new R =
+        let differ = IsDistinct-keys_filter same_key (λ p. starts_with nat_eq p.0 prefix) (order_of f img) R.differ in
         are_new (chosen prefix (pair_of f.order img off)) h.done
         (distinct_behind (chosen prefix (pairs f.order img rest)) (chosen prefix (pair_of f.order img off) ++ h.done) (subst (λ ps. IsDistinct same_key (keys_of ps)) next_split differ))
 
@@ -282,8 +281,13 @@ pub refused_bare : (g : Form) (b : List ℕ) (given : List (List ℕ × List ℕ
 refused_bare g b given limit Value.TheVariants.Io bare = (given, [], sym (append-nil given), rewritten_bare g b bare)
 refused_bare g b given limit Value.TheVariants.Memory bare = (given, [], sym (append-nil given), rewritten_bare g b bare)
 
+-- where the place of the next record isn't read nothing more was copied
+pub refused_ahead : (f : Form) (img prefix : List ℕ) (g : Form) (b offs : List ℕ) (limit : ℕ) (e : Value.ValueRefusal) → Ahead f img prefix g b offs → RewriteCause g b (chosen prefix (order_of f img)) limit (of_read e)
+refused_ahead f img prefix g b offs limit Value.TheVariants.Io h = ahead_kept f img prefix g b offs h
+refused_ahead f img prefix g b offs limit Value.TheVariants.Memory h = ahead_kept f img prefix g b offs h
+
 -- the last of the records that are ahead is copied, or refused, by a call over views that are as they were
-module _ (f k : Form) (img v prefix : List ℕ) (g l : Form) (a b offs rest : List ℕ) (off limit : ℕ) (hands : List HandPair) (form : k ≡ f) (image : v ≡ img) (same : l ≡ g) (A : AcceptWith f img hands)
+module _ (f k : Form) (img v prefix : List ℕ) (g l : Form) (a b offs rest : List ℕ) (off limit : ℕ) (form : k ≡ f) (image : v ≡ img) (same : l ≡ g) (R : Readable f img)
     (h : Ahead f img prefix g a offs) (last : offs ≡ rest ++ off ∷ []) where
   stands_there : StandsUsed k v off
   stands_there = moved (λ x i. StandsUsed x i off) k f v img (sym form) (sym image) (next_stands f img prefix g a offs h rest off last)
@@ -292,7 +296,7 @@ module _ (f k : Form) (img v prefix : List ℕ) (g l : Form) (a b offs rest : Li
   holds_there = subst (λ x. Rewritten x a h.done) (sym same) h.holds
 
   new_there : AreNew (chosen prefix (pair_of k.order v off)) h.done
-  new_there = moved (λ x i. AreNew (chosen prefix (pair_of x.order i off)) h.done) k f v img (sym form) (sym image) (next_new f img prefix g a offs h rest off last hands A)
+  new_there = moved (λ x i. AreNew (chosen prefix (pair_of x.order i off)) h.done) k f v img (sym form) (sym image) (next_new f img prefix g a offs h rest off last R)
 
   pub step_copied : (StandsUsed k v off → (done : List (List ℕ × List ℕ)) → Rewritten l a done → AreNew (chosen prefix (pair_of k.order v off)) done → Rewritten l b (chosen prefix (pair_of k.order v off) ++ done)) → Ahead f img prefix g b rest
   step_copied copied =

@@ -1,3 +1,4 @@
+pub mod Readable
 pub mod Walking
 pub mod Showing
 pub mod Adding
@@ -6,4 +7,5 @@ pub mod Greatest
 pub mod Streamed
 pub mod Written
 pub mod Reading
+pub mod Coming
 pub mod Copied

@@ -4,4 +4,6 @@ pub mod Refusal
 pub mod Sums
 pub mod Summary
 pub mod Text
+pub mod Readable
 pub mod Rewritten
+pub mod Places

@@ -3,10 +3,9 @@
 ghost use Rattle.std.specs.Prelude.{◌≡◌, ◌++◌, ◌∷◌, ◌^◌, ◌<◌, ◌≤◌, [], max, List, ℕ, IsTrue, IfOk, IfErr, OnOk, length, if◌then◌else◌};
 ghost use Rattle.tdb_chain.specs.declared.refusal.ValueRefusal.TheVariants.{Io as Unread};
 ghost use Rattle.tdb_disk.specs.Count.{HasCauseOf};
-ghost use Rattle.tdb_space.specs.Accepted.{AcceptWith};
-ghost use Rattle.tdb_space.specs.Extents.{HandPair};
 ghost use Rattle.tdb_space.specs.Frame.{Looked, Wrote};
 ghost use Rattle.tdb_space.specs.Pairs.{order_of, pair_of};
+ghost use Rattle.tdb_rewrite.specs.Readable.{Readable};
 ghost use Rattle.tdb_backup.specs.Held.{pair_held};
 ghost use Rattle.tdb_backup.specs.declared.refusal.CopyRefusal.TheVariants.{Read, Write};
 ghost use Rattle.tdb_rewrite.specs.Rewritten.{AreNew, IsBare, Rewritten, RewriteCause, StandsUsed, chosen};
@@ -85,13 +84,15 @@ fn copy_record<S: Space, T: Space>(
 /// Adds the pairs of a file whose key begins with `prefix` to a file that ends where its data start, which may be up to
 /// `limit` bytes long. The two may differ in byte order, hash and number of chains. The new file then has no dead record
 /// and no undo area, each of its bytes from the data start on lies in a record, and each of its chains has its pairs in
-/// the order in which the file that is read has them.
+/// the order in which the file that is read has them. That file needn't be accepted: it is enough that its pairs can be
+/// read (`Readable`), whatever stands beside the records of its chains.
 ///
-/// A pair is put in front of its chain, so the pairs are added from the last one to the first, without a look-up: time is
-/// linear in the length of the file that is read. It holds one pair, and 4 bytes for each record. After a refusal the new
-/// file holds the last pairs, down to the one that was refused, unless it was the new file's disk that failed: `Read`
-/// where the disk that is read failed, `Write` where the other did, `Full` where no room is left within the limit, and
-/// `Memory` where that is wanting.
+/// A pair is put in front of its chain, so the pairs are added from the last one to the first, without a look-up: time
+/// is linear in the length of the file that is read. It walks along each chain right before it copies that chain's
+/// records, and holds one pair, and 4 bytes for each record of a chain. After a refusal the new file holds the last
+/// pairs, down to the one that was refused, unless it was the new file's disk that failed: `Read` where the disk that
+/// is read failed, `Write` where the other did, `Full` where no room is left within the limit, and `Memory` where that
+/// is wanting.
 pub fn rewrite<S: Space, T: Space>(
     alloc: Global,
     from: &mut S,
@@ -102,10 +103,10 @@ pub fn rewrite<S: Space, T: Space>(
     requires chains { 0 < (T.form to.old).chains }
     requires limit { limit ≤ 4294963200 }
     ensures rewritten { OnOk result (IsTrue S.tells → IsTrue T.tells → T.size to.old < 2 ^ 32
-        → (hands : List HandPair) → AcceptWith (S.form from.old) (S.image from.old) hands → IsBare (T.form to.old) (T.image to.old)
+        → Readable (S.form from.old) (S.image from.old) → IsBare (T.form to.old) (T.image to.old)
         → Rewritten (T.form to.old) (T.image to.new) (chosen prefix.now (order_of (S.form from.old) (S.image from.old)))) }
     ensures refused { IfErr result (λ e. IsTrue S.tells → IsTrue T.tells → T.size to.old < 2 ^ 32
-        → (hands : List HandPair) → AcceptWith (S.form from.old) (S.image from.old) hands → IsBare (T.form to.old) (T.image to.old)
+        → Readable (S.form from.old) (S.image from.old) → IsBare (T.form to.old) (T.image to.old)
         → RewriteCause (T.form to.old) (T.image to.new) (chosen prefix.now (order_of (S.form from.old) (S.image from.old))) limit e) }
     ensures within { T.size to.new ≤ max (T.size to.old) limit }
     ensures grows { T.size to.old ≤ T.size to.new }
@@ -116,7 +117,7 @@ pub fn rewrite<S: Space, T: Space>(
 {
     let mut places = Places::of(alloc, from)?;
     let mut held = Held::new(alloc);
-    while let Some(off) = places.offs.pop() {
+    while let Some(off) = places.next(from)? {
         copy_record(&mut held, from, places.len, off, to, prefix, limit)?;
     }
     Ok(())

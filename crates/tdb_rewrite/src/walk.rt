@@ -1,6 +1,6 @@
 // The walk along one list of records: a chain, or the free list.
 
-ghost use Rattle.std.specs.Prelude.{◌≡◌, ◌+◌, ◌^◌, ◌<◌, ◌≤◌, List, ℕ, IsTrue, IsSome, IfOk};
+ghost use Rattle.std.specs.Prelude.{◌≡◌, ◌+◌, ◌*◌, ◌^◌, ◌<◌, ◌≤◌, List, ℕ, IsTrue, IsSome, IfOk};
 ghost use Rattle.tdb_disk.specs.Count.{HasCause};
 ghost use Rattle.tdb_words.specs.Word.{word};
 ghost use Rattle.tdb_space.specs.Frame.{Looked};
@@ -37,6 +37,7 @@ impl ListWalk {
         ensures ahead { IfOk result (λ walk. IsTrue S.tells → head + 4 ≤ S.size s.old → (offs : List ℕ)
             → IsWholeList (S.form s.old) (S.image s.old) (word (S.form s.old).order (S.image s.old) head) offs
             → Ahead (S.form s.old) (S.image s.old) offs walk) }
+        ensures counted { IfOk result (λ walk. 4 * walk.left ≤ len) }
         ensures looked { Looked S.Space s.old s.new }
         ensures cause { HasCause (S.faults s.old) (S.faults s.new) result }
         ensures bytes_read { S.bytes_read s.old ≤ S.bytes_read s.new }

@@ -5,6 +5,8 @@ use Rattle.tdb_space.specs.Form.{chain_head}
 use Rattle.tdb_space.specs.Record.{IsChained}
 use Rattle.tdb_space.specs.Chain.{chain_of}
 use Rattle.tdb_rewrite.specs.Walk.{Gives}
+use Rattle.std.specs.Prelude.{IsSome}
+use Rattle.tdb_rewrite.proofs.Coming.{pushed_few}
 use Rattle.tdb_rewrite.proofs.Walking.{whole_list, list_there, step_there, none_given}
 use Rattle.tdb_rewrite.proofs.places.Places.add_chain.Goals as goal
 
@@ -16,6 +18,8 @@ loop-found-init g c = record {
       let there = list_there f f img img offs (chain_head c.args.chain) c.chain_head.result refl refl c.chain_head.ensures whole in
       let inside : c.chain_head.result + 4 ≤ g.S.Space.size c.args.s.now = omega (arith, within, c.chain_head.ensures) in
       (offs, c.in_ok-walk.ensures.ahead told inside offs there, refl));
+  few = omega (arith, c.in_ok-walk.ensures.counted);
+  chains = refl;
   len = refl;
   looked = search rules;
   faults = search rules;
@@ -38,13 +42,15 @@ loop-found-preserved g c = record {
         gave.3,
         h.2 ∙ ap (λ xs. items ++ xs) gave.1 ∙ sym (append_assoc items (c.in-Some.found.off ∷ []) gave.0) ∙ ap (λ xs. xs ++ gave.0) (sym c.in_ok-push.ensures.pushed),
       ));
+  few = pushed_few c.loop-found.self.offs.items c.push.new.self.offs.items c.in-Some.found.off c.loop-found.walk.left c.next.new.self.left _ c.in_ok-push.ensures.pushed (c.in_ok-found.ensures.fewer (subst IsSome (sym c.in-Some.is) refl)) c.loop-found.invariant.few;
+  chains = search rules;
   len = search rules;
   looked = search rules;
   faults = search rules;
 }
 
 pub returns-clause-added : goal.returns-clause-added
-returns-clause-added g c told number hands A =
+returns-clause-added g c told number R =
     let f = g.S.Space.form c.args.s.now in
     let img = g.S.Space.image c.args.s.now in
     let k = g.S.Space.form c.loop-found.s in
@@ -54,8 +60,8 @@ returns-clause-added g c told number hands A =
     let next = c.next.new.self in
     let items = c.loop-found.self.offs.items in
     let offs = chain_of f img j in
-    let whole = whole_list f IsChained img (word f.order img (chain_head j)) offs (A.chains j number) in
-    let within : chain_head j + 4 ≤ g.S.Space.size c.args.s.now = omega (arith, A.long, number, g.met.S.Space.told_size c.args.s.now told) in
+    let whole = whole_list f IsChained img (word f.order img (chain_head j)) offs (R.chains j number) in
+    let within : chain_head j + 4 ≤ g.S.Space.size c.args.s.now = omega (arith, R.long, number, g.met.S.Space.told_size c.args.s.now told) in
     let h = c.loop-found.invariant.passed told offs whole within in
     let gives = step_there f k img v h.0 c.loop-found.walk next _ looked.form looked.image (c.in_ok-found.ensures.gives told h.0) h.1 in
     let none = none_given f img h.0 next _ c.in_default.not-Some gives in

@@ -1,5 +1,5 @@
 -- The records that were passed are among the places, and the view is as it was.
-use Rattle.std.proofs.Common.{◌≡◌, ◌++◌, ℕ, ◌+◌, ◌≤◌, List, IsTrue}
+use Rattle.std.proofs.Common.{◌≡◌, ◌++◌, ℕ, ◌+◌, ◌*◌, ◌≤◌, List, length, IsTrue}
 use Rattle.tdb_words.specs.Word.{word}
 use Rattle.tdb_space.specs.Form.{chain_head}
 use Rattle.tdb_space.specs.Frame.{Looked}
@@ -12,6 +12,8 @@ invariant-loop-found g l = record {
       → IsWholeList (g.S.Space.form l.fn.s) (g.S.Space.image l.fn.s) (word (g.S.Space.form l.fn.s).order (g.S.Space.image l.fn.s) (chain_head l.chain)) offs
       → chain_head l.chain + 4 ≤ g.S.Space.size l.fn.s
       → (left : List ℕ) × Ahead (g.S.Space.form l.fn.s) (g.S.Space.image l.fn.s) left l.walk × (l.fn.self.offs.items ++ offs ≡ l.self.offs.items ++ left);
+  few : 4 * (length l.self.offs.items + l.walk.left) ≤ 4 * length l.fn.self.offs.items + l.fn.self.len;
+  chains : l.self.chains ≡ l.fn.self.chains;
   len : l.self.len ≡ l.fn.self.len;
   looked : Looked g.S.Space l.fn.s l.s;
   faults : g.S.Space.faults l.s ≡ g.S.Space.faults l.fn.s;
