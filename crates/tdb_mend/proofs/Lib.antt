@@ -1,0 +1,17 @@
+pub mod Behinds
+pub mod Unlocked
+pub mod Laid
+pub mod Strays
+pub mod Alike
+pub mod Faults
+pub mod Areas
+pub mod Pieces
+pub mod Gives
+pub mod GivenBack
+pub mod Undone
+pub mod Counts
+pub mod Counted
+pub mod Viewed
+pub mod Surveyed
+pub mod Overlays
+pub mod Overwritten

@@ -1,0 +1,8 @@
+-- The file is as it was.
+use Rattle.std.proofs.Common.{◌∙◌, ap}
+use Rattle.tdb_disk.specs.History.{seen}
+use Rattle.tdb_mend.specs.View.{mended_view}
+use Rattle.tdb_mend.proofs.view.MendedViewSpace.read.Goals as goal
+
+pub returns-clause-image : goal.returns-clause-image
+returns-clause-image g c = ap (λ h. mended_view c.read_shown.new.file (seen h)) c.read_shown.ensures.history ∙ c.read_shown.ensures.same.view

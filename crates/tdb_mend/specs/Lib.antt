@@ -1,0 +1,10 @@
+pub mod WideUndo
+pub mod Mutexes
+pub mod Mended
+pub mod Area
+pub mod Giving
+pub mod Counting
+pub mod Files
+pub mod View
+pub mod Behind
+pub mod Laws
