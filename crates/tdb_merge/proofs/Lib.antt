@@ -1,0 +1,10 @@
+mod Stored
+mod Calm
+mod Shapes
+mod Running
+mod Commands
+mod Ended
+mod Parts
+mod Plays
+mod Choosing
+mod Whole

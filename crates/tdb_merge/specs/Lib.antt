@@ -1,0 +1,4 @@
+pub mod Merged
+pub mod Faults
+pub mod Endings
+pub mod Parts
