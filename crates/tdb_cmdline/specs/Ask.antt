@@ -11,7 +11,7 @@ use Rattle.tdb_cmdline.specs.declared.act.Act.{Act}
 use Rattle.tdb_cmdline.specs.declared.act.Verb.{Verb}
 use Rattle.tdb_cmdline.specs.declared.act.Verb.TheVariants.{Show, Insert, Store, Delete, Erase, Check, First, Next, TransactionStart, TransactionCommit, TransactionCancel, Quit}
 use Rattle.tdb_cmdline.specs.declared.ask.Task.{Task}
-use Rattle.tdb_cmdline.specs.declared.ask.Task.TheVariants.{Create, On, Read, Rescue, Print, Repack, Restore, Backup, Verify, Convert, Turns, Session, Generate}
+use Rattle.tdb_cmdline.specs.declared.ask.Task.TheVariants.{Create, On, Read, Rescue, Print, Repack, Restore, Backup, Verify, Convert, Merge, Mend, Turns, Session, Generate}
 use Rattle.tdb_cmdline.specs.declared.ask.Ask as C
 use Rattle.tdb_cmdline.specs.declared.options.Command.{Command}
 use Rattle.tdb_cmdline.specs.declared.options.Command.TheVariants as command
@@ -25,6 +25,7 @@ use Rattle.tdb_cmdline.specs.Lines.Create.{create_of}
 use Rattle.tdb_cmdline.specs.CopyNames.{BackupFits, VerifyFits}
 use Rattle.tdb_cmdline.specs.Lines.Backup.{asks_of}
 use Rattle.tdb_cmdline.specs.Lines.Convert.{convert_of}
+use Rattle.tdb_cmdline.specs.Lines.Mend.{mend_of}
 use Rattle.tdb_cmdline.specs.Lines.Dump.{task_of as dump_task}
 use Rattle.tdb_cmdline.specs.Lines.Turns.{options_in}
 use Rattle.tdb_cmdline.specs.Lines.Generate.{generate_of}
@@ -111,9 +112,13 @@ restore_asks line = of_one (λ file. option_map (λ limit. asks file (Restore li
 abbrev pub backup_asks : Line → Option Ask
 backup_asks line = option_map (λ found. asks found.0 found.1) (asks_of line)
 
--- `convert [--limit N] [--prefix KEY] FILE NEW [SIZE [default|jenkins [little|big]]]`
+-- `convert [--limit N] [--prefix KEY] FILE NEW [SIZE [default|jenkins [little|big]]]`, or with `--into` and no SIZE
 abbrev pub convert_asks : Line → Option Ask
 convert_asks line = option_map (λ found. asks found.0 found.1) (convert_of line)
+
+-- `mend FILE NEW`
+abbrev pub mend_asks : Line → Option Ask
+mend_asks line = option_map (λ found. asks found.0 found.1) (mend_of line)
 
 -- `turns [--limit N] [--no-nesting] [--read-only] [--seqnum] FILE`
 abbrev pub turns_asks : Line → Option Ask
@@ -130,6 +135,7 @@ command_asks command.Dump line = dump_asks line
 command_asks command.Restore line = restore_asks line
 command_asks command.Backup line = backup_asks line
 command_asks command.Convert line = convert_asks line
+command_asks command.Mend line = mend_asks line
 command_asks command.Turns line = turns_asks line
 command_asks command.Generate line = gen_asks line
 
@@ -178,6 +184,8 @@ TaskFits file (Restore limit) = limit ≤ LONGEST_FILE
 TaskFits file (Backup more suffix) = BackupFits suffix (file ∷ more)
 TaskFits file (Verify more suffix) = VerifyFits suffix (file ∷ more)
 TaskFits file (Convert new made prefix) = (new ≢ file) × (0 < made.form.size) × (made.limit ≤ LONGEST_FILE)
+TaskFits file (Mend new) = new ≢ file
+TaskFits file (Merge into prefix limit) = (into ≢ file) × (limit ≤ LONGEST_FILE)
 TaskFits file (Turns options) = options.limit ≤ LONGEST_FILE
 TaskFits file (Session limit) = limit ≤ LONGEST_FILE
 TaskFits file (Generate n seed) = Unit {0}

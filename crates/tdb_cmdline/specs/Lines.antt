@@ -4,4 +4,5 @@ pub mod Convert
 pub mod Create
 pub mod Dump
 pub mod Generate
+pub mod Mend
 pub mod Turns

@@ -6,7 +6,7 @@ use Rattle.std.specs.Option.{option_and_then}
 use Rattle.tdb_space.specs.Pairs.{same_key}
 use Rattle.tdb_open.specs.declared.limits.TheConstants.{LONGEST_FILE}
 use Rattle.tdb_cmdline.specs.declared.options.Command.{Command}
-use Rattle.tdb_cmdline.specs.declared.options.Command.TheVariants.{Tool, Dump, Restore, Backup, Convert, Turns, Generate}
+use Rattle.tdb_cmdline.specs.declared.options.Command.TheVariants.{Tool, Dump, Restore, Backup, Convert, Mend, Turns, Generate}
 use Rattle.tdb_cmdline.specs.declared.options.Kind.{Kind}
 use Rattle.tdb_cmdline.specs.declared.options.Kind.TheVariants.{Valued, Flag}
 use Rattle.tdb_cmdline.specs.declared.options.GivenOption.{GivenOption}
@@ -21,6 +21,7 @@ commands =
     ∷ (codes "restore", Restore)
     ∷ (codes "backup", Backup)
     ∷ (codes "convert", Convert)
+    ∷ (codes "mend", Mend)
     ∷ (codes "turns", Turns)
     ∷ (codes "gen", Generate)
     ∷ []
@@ -31,9 +32,10 @@ options_of Tool = (codes "--limit", Valued) ∷ []
 options_of Dump = (codes "-k", Valued) ∷ (codes "-e", Flag) ∷ []
 options_of Restore = (codes "--limit", Valued) ∷ []
 options_of Backup = (codes "-s", Valued) ∷ (codes "-v", Flag) ∷ []
-options_of Convert = (codes "--limit", Valued) ∷ (codes "--prefix", Valued) ∷ []
+options_of Convert = (codes "--limit", Valued) ∷ (codes "--prefix", Valued) ∷ (codes "--into", Flag) ∷ []
 options_of Turns =
     (codes "--limit", Valued) ∷ (codes "--no-nesting", Flag) ∷ (codes "--read-only", Flag) ∷ (codes "--seqnum", Flag) ∷ []
+options_of Mend = []
 options_of Generate = []
 
 abbrev pub kind_of : Command → List ℕ → Option Kind

@@ -3,12 +3,12 @@
 ghost use Rattle.std.specs.Prelude.{◌≡◌, ◌≤◌, ℕ, List, map, string_bytes, IfOk, IfSome};
 ghost use Rattle.std.specs.Option.{option_map};
 ghost use Rattle.tdb_cmdline.specs.Acts.{print_of};
-ghost use Rattle.tdb_cmdline.specs.Ask.{asked, asks, on_file, print_file, repack_of, tool_task, ask_of, words_ask, tool_asks, dump_asks, restore_asks, backup_asks, convert_asks, turns_asks, gen_asks, task_of as task_asked, VerbFits, TaskFits};
+ghost use Rattle.tdb_cmdline.specs.Ask.{asked, asks, on_file, print_file, repack_of, tool_task, ask_of, words_ask, tool_asks, dump_asks, restore_asks, backup_asks, convert_asks, mend_asks, turns_asks, gen_asks, task_of as task_asked, VerbFits, TaskFits};
 
 use crate::act::{Act, Verb};
 use crate::lines::create::NewFile;
 use crate::lines::turns::options_in;
-use crate::lines::{backup, convert, dump, generate};
+use crate::lines::{backup, convert, dump, generate, mend};
 use crate::look::Look;
 use crate::names::{Names, Text};
 use crate::options::{Command, Line};
@@ -66,6 +66,19 @@ pub enum Task {
         new: Text,
         made: NewFile,
         prefix: Bytes,
+    },
+
+    /// To make a new file of what can be read of it, where it is damaged too. The new one has another name.
+    Mend {
+        new: Text,
+    },
+
+    /// To store the pairs of it whose key begins with `prefix` into a file that is there, which has another name. Each of
+    /// the two may have `limit` bytes, before and after.
+    Merge {
+        into: Text,
+        prefix: Bytes,
+        limit: u64,
     },
 
     /// To take the plays of the script on the input over it, which is opened so.
@@ -272,6 +285,20 @@ impl Ask {
         }
     }
 
+    /// What a line of `mend` asks for.
+    fn of_mend(alloc: Global, line: &Line) -> Result<Option<Ask>, AllocError>
+        ensures read { IfOk result (λ ask. option_map asked ask ≡ mend_asks line.now) }
+        ensures fits { IfOk result (λ ask. IfSome ask (λ a. TaskFits (string_bytes a.file) a.task)) }
+    {
+        match mend::asks_of(alloc, line)? {
+            Some((file, task)) => {
+                let file = file.into_string();
+                Ok(Some(Ask { file, task }))
+            }
+            None => Ok(None),
+        }
+    }
+
     /// What a line of `turns` asks for.
     fn of_turns(alloc: Global, line: &Line) -> Result<Option<Ask>, AllocError>
         ensures read { IfOk result (λ ask. option_map asked ask ≡ turns_asks line.now) }
@@ -321,6 +348,7 @@ impl Ask {
             Command::Restore => Ask::of_restore(alloc, &line),
             Command::Backup => Ask::of_backup(alloc, line),
             Command::Convert => Ask::of_convert(alloc, &line),
+            Command::Mend => Ask::of_mend(alloc, &line),
             Command::Turns => Ask::of_turns(alloc, &line),
             Command::Generate => Ask::of_gen(alloc, &line),
         }

@@ -5,4 +5,5 @@ pub(crate) mod convert;
 pub(crate) mod create;
 pub(crate) mod dump;
 pub(crate) mod generate;
+pub(crate) mod mend;
 pub(crate) mod turns;

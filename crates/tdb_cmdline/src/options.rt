@@ -27,6 +27,7 @@ pub(crate) enum Command {
     Restore,
     Backup,
     Convert,
+    Mend,
     Turns,
     Generate,
 }
@@ -82,6 +83,7 @@ impl Command {
             "restore" => Some(Command::Restore),
             "backup" => Some(Command::Backup),
             "convert" => Some(Command::Convert),
+            "mend" => Some(Command::Mend),
             "turns" => Some(Command::Turns),
             "gen" => Some(Command::Generate),
             _ => None,
@@ -109,6 +111,7 @@ impl Command {
             },
             Command::Convert => match name {
                 "--limit" | "--prefix" => Some(Kind::Valued),
+                "--into" => Some(Kind::Flag),
                 _ => None,
             },
             Command::Turns => match name {
@@ -116,7 +119,7 @@ impl Command {
                 "--no-nesting" | "--read-only" | "--seqnum" => Some(Kind::Flag),
                 _ => None,
             },
-            Command::Generate => None,
+            Command::Mend | Command::Generate => None,
         }
     }
 }
@@ -178,12 +181,14 @@ impl Command {
                 .arg(flag(alloc, "-v").short('v')),
             Command::Convert => bare
                 .arg(Arg::new(alloc, "--limit").long("limit"))?
-                .arg(Arg::new(alloc, "--prefix").long("prefix")),
+                .arg(Arg::new(alloc, "--prefix").long("prefix"))?
+                .arg(flag(alloc, "--into").long("into")),
             Command::Turns => bare
                 .arg(Arg::new(alloc, "--limit").long("limit"))?
                 .arg(flag(alloc, "--no-nesting").long("no-nesting"))?
                 .arg(flag(alloc, "--read-only").long("read-only"))?
                 .arg(flag(alloc, "--seqnum").long("seqnum")),
+            Command::Mend => Ok(bare),
             Command::Generate => Ok(bare),
         }
     }

@@ -8,7 +8,7 @@ use Rattle.clap.specs.Walk.{idle, nothing_held, rows_after, walk_from, with_defa
 use Rattle.clap.specs.Simple.{argument_words, entered, names_of}
 use Rattle.clap.specs.Faults.{built_fault, entered_fault, fault_of}
 use Rattle.tdb_cmdline.specs.declared.options.Command.{Command}
-use Rattle.tdb_cmdline.specs.declared.options.Command.TheVariants.{Tool, Dump, Restore, Backup, Convert, Turns, Generate}
+use Rattle.tdb_cmdline.specs.declared.options.Command.TheVariants.{Tool, Dump, Restore, Backup, Convert, Mend, Turns, Generate}
 use Rattle.tdb_cmdline.specs.declared.options.Line.{Line}
 use Rattle.tdb_cmdline.specs.Options.{options_of, line_of}
 use Rattle.tdb_cmdline.specs.Clap.{app_for, all_plain, options_in, positions_in, distinct}
@@ -23,6 +23,7 @@ all_words Dump words = refl
 all_words Restore words = refl
 all_words Backup words = refl
 all_words Convert words = refl
+all_words Mend words = refl
 all_words Turns words = refl
 all_words Generate words = refl
 

@@ -16,7 +16,7 @@ use Rattle.clap.specs.declared.builder.action.ArgAction.TheVariants.{Set, SetTru
 use Rattle.std.proofs.Math.Bool.{or-false}
 use Rattle.tdb_cmdline.proofs.SameKey.{same_key-sym}
 use Rattle.tdb_cmdline.specs.declared.options.Command.{Command}
-use Rattle.tdb_cmdline.specs.declared.options.Command.TheVariants.{Tool, Dump, Restore, Backup, Convert, Turns, Generate}
+use Rattle.tdb_cmdline.specs.declared.options.Command.TheVariants.{Tool, Dump, Restore, Backup, Convert, Mend, Turns, Generate}
 use Rattle.tdb_cmdline.specs.declared.options.Kind.{Kind}
 use Rattle.tdb_cmdline.specs.declared.options.Kind.TheVariants.{Valued, Flag}
 use Rattle.tdb_cmdline.specs.Options.{options_of}
@@ -61,6 +61,7 @@ built_app Dump = refl
 built_app Restore = refl
 built_app Backup = refl
 built_app Convert = refl
+built_app Mend = refl
 built_app Turns = refl
 built_app Generate = refl
 
@@ -70,6 +71,7 @@ is_simple_app Dump = refl
 is_simple_app Restore = refl
 is_simple_app Backup = refl
 is_simple_app Convert = refl
+is_simple_app Mend = refl
 is_simple_app Turns = refl
 is_simple_app Generate = refl
 
@@ -92,6 +94,7 @@ names Dump = refl
 names Restore = refl
 names Backup = refl
 names Convert = refl
+names Mend = refl
 names Turns = refl
 names Generate = refl
 

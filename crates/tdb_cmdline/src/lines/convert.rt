@@ -1,4 +1,5 @@
-// What a conversion makes of its file: a new one, of other chains, another hash or another byte order.
+// What a conversion makes of its file: a new one, of other chains, another hash or another byte order; or what it stores
+// into one that is there.
 
 ghost use Rattle.std.specs.Prelude.{◌≡◌, ◌<◌, ◌≤◌, IfOk, IfSome};
 ghost use Rattle.std.specs.Option.{option_map};
@@ -36,9 +37,47 @@ fn task_for(file: &str, new: Text, made: NewFile, prefix: Bytes) -> Option<Task>
     Some(Task::Convert { new, made, prefix })
 }
 
-/// What the words behind the command's name ask for: the file, and what is done with it.
-pub(crate) fn asks_of(alloc: Global, line: &Line) -> Result<Option<(Text, Task)>, AllocError>
-    ensures read { IfOk result (λ asked. asked ≡ C.convert_of line.now) }
+/// To store the pairs into the file of this name, where it isn't that of the file that is read.
+fn merge_for(file: &str, into: Text, prefix: Bytes, limit: u64) -> Option<Task>
+    requires limit { limit ≤ 4294963200 }
+    ensures read { result ≡ C.merge_for file.now into prefix limit }
+    ensures fits { IfSome result (λ task. TaskFits file.now task) }
+{
+    if into.as_str() == file {
+        return None;
+    }
+    Some(Task::Merge {
+        into,
+        prefix,
+        limit,
+    })
+}
+
+/// What the words ask for where the pairs are stored into a file that is there.
+fn merge_asks(alloc: Global, line: &Line) -> Result<Option<(Text, Task)>, AllocError>
+    ensures read { IfOk result (λ asked. asked ≡ C.merge_of line.now) }
+    ensures fits { IfOk result (λ asked. IfSome asked (λ a. TaskFits a.0 a.1)) }
+{
+    let [file, into] = line.positions.as_slice() else {
+        return Ok(None);
+    };
+    let Some(limit) = line.limit() else {
+        return Ok(None);
+    };
+    let Some(prefix) = prefix_of(alloc, line.value_of("--prefix"))? else {
+        return Ok(None);
+    };
+    let into = Text::copy(alloc, into.as_str())?;
+    let Some(task) = merge_for(file.as_str(), into, prefix, limit) else {
+        return Ok(None);
+    };
+    let file = Text::copy(alloc, file.as_str())?;
+    Ok(Some((file, task)))
+}
+
+/// What the words ask for where a new file is made of the pairs.
+fn new_asks(alloc: Global, line: &Line) -> Result<Option<(Text, Task)>, AllocError>
+    ensures read { IfOk result (λ asked. asked ≡ C.new_of line.now) }
     ensures fits { IfOk result (λ asked. IfSome asked (λ a. TaskFits a.0 a.1)) }
 {
     let [file, new, arguments @ ..] = line.positions.as_slice() else {
@@ -59,4 +98,15 @@ pub(crate) fn asks_of(alloc: Global, line: &Line) -> Result<Option<(Text, Task)>
     };
     let file = Text::copy(alloc, file.as_str())?;
     Ok(Some((file, task)))
+}
+
+/// What the words behind the command's name ask for: the file, and what is done with it.
+pub(crate) fn asks_of(alloc: Global, line: &Line) -> Result<Option<(Text, Task)>, AllocError>
+    ensures read { IfOk result (λ asked. asked ≡ C.convert_of line.now) }
+    ensures fits { IfOk result (λ asked. IfSome asked (λ a. TaskFits a.0 a.1)) }
+{
+    if line.has("--into") {
+        return merge_asks(alloc, line);
+    }
+    new_asks(alloc, line)
 }
