@@ -178,17 +178,17 @@ module _ (input : Input) (task : Task) (made : NewFile) (prefix new name : List 
 
   left_ends : (e : Ending) (h : History) (now : Option History) → held name ≡ Some h → ConvertLeft made prefix (seen h) new (held new) e now → (e ≡ E.DeviceFault → Rose before after) → AskEnds input task name held before after e
   left_ends (E.Replied reply) h now there (inl done) rose =
-      inr (inr (inr (inr (inr (record { new = new; made = made; prefix = prefix; was = h; converts = is; there = there; ends = record { within = done.1.0.0; can_read = done.1.0.1; ends = inr (inr (inl (done.1.1, ap E.Replied done.0))) } })))))
+      inr (inr (inr (inr (inr (inl (record { new = new; made = made; prefix = prefix; was = h; converts = is; there = there; ends = record { within = done.1.0.0; can_read = done.1.0.1; ends = inr (inr (inl (done.1.1, ap E.Replied done.0))) } }))))))
   left_ends (E.Replied reply) h now there (inr full) rose =
-      inr (inr (inr (inr (inr (record { new = new; made = made; prefix = prefix; was = h; converts = is; there = there; ends = record { within = full.0.0; can_read = full.0.1; ends = inr (inr (inr (reply, full.1, full.2, refl))) } })))))
+      inr (inr (inr (inr (inr (inl (record { new = new; made = made; prefix = prefix; was = h; converts = is; there = there; ends = record { within = full.0.0; can_read = full.0.1; ends = inr (inr (inr (reply, full.1, full.2, refl))) } }))))))
   left_ends (E.Refused refusal) h now there left rose = of left.0
     where
       of : IsRefusedToReadBelow made.limit (seen h) refusal ⊎ (CanConvert made (seen h) × IsTooLarge made (held new) refusal) → AskEnds input task name held before after (E.Refused refusal)
       of (inl right) = caused (E.Refused refusal) (task_due (E.Refused refusal) (subst (λ o. TaskDue (Convert new made prefix) name o (E.Refused refusal)) (sym there) (record { refusal = refusal; right = right; refused = refl })))
       of (inr large) =
-          inr (inr (inr (inr (inr (record { new = new; made = made; prefix = prefix; was = h; converts = is; there = there; ends = record { within = large.0.0; can_read = large.0.1; ends = inr (inl (refusal, large.1, refl)) } })))))
+          inr (inr (inr (inr (inr (inl (record { new = new; made = made; prefix = prefix; was = h; converts = is; there = there; ends = record { within = large.0.0; can_read = large.0.1; ends = inr (inl (refusal, large.1, refl)) } }))))))
   left_ends (E.There n) h now there left rose =
-      inr (inr (inr (inr (inr (record { new = new; made = made; prefix = prefix; was = h; converts = is; there = there; ends = record { within = left.0.0; can_read = left.0.1; ends = inl (left.1, ap E.There left.2) } })))))
+      inr (inr (inr (inr (inr (inl (record { new = new; made = made; prefix = prefix; was = h; converts = is; there = there; ends = record { within = left.0.0; can_read = left.0.1; ends = inl (left.1, ap E.There left.2) } }))))))
   left_ends E.DeviceFault h now there left rose = caused E.DeviceFault (task_failed (rose refl))
   left_ends E.NoMemory h now there left rose = caused E.NoMemory task_wanting
   left_ends E.LogFault h now there left rose = caused E.LogFault task_unlogged

@@ -3,6 +3,7 @@ pub mod Held
 pub mod Found
 pub mod FirstPair
 pub mod Inserts
+pub mod Damaged
 pub mod Acting
 pub mod Unlogged
 pub mod Restoring
@@ -13,6 +14,8 @@ pub mod BackingUp
 pub mod Rewriting
 pub mod Repacking
 pub mod Converting
+pub mod Mending
+pub mod Merging
 pub mod OneAnswer
 pub mod Copies
 pub mod Verifying

@@ -11,7 +11,7 @@ use Rattle.tdb_space.proofs.OpeningFault.OneFault.{one_opening, never_both_ways}
 use Rattle.tdb_cmdline.specs.declared.act.Act.{Act}
 use Rattle.tdb_cmdline.specs.declared.look.Look.{Look}
 use Rattle.tdb_cmdline.specs.declared.ask.Task.{Task}
-use Rattle.tdb_cmdline.specs.declared.ask.Task.TheVariants.{Create, On, Read, Rescue, Print, Repack, Restore, Backup, Verify, Convert, Turns, Session, Generate}
+use Rattle.tdb_cmdline.specs.declared.ask.Task.TheVariants.{Create, On, Read, Rescue, Print, Repack, Restore, Backup, Verify, Convert, Merge, Mend, Turns, Session, Generate}
 use Rattle.tdb_answer.specs.declared.ending.Ending.{Ending}
 use Rattle.tdb_answer.specs.declared.ending.Ending.TheVariants.{Refused}
 use Rattle.tdb_open.specs.declared.halt.Refusal.{Refusal}
@@ -22,6 +22,7 @@ use Rattle.tdb_answer.specs.Ending.{status_of, Replies, Refuses, LookReplies, Re
 use Rattle.tdb_answer.specs.Commands.Rescue.{CanRescue, IsUnreadable, RescueDue}
 use Rattle.tdb_cmdline.specs.declared.lines.create.NewFile.{NewFile}
 use Rattle.tdb_open.specs.Opening.{CanOpen, IsRefused, OpensToRead, CanRead, HasOpenGate, IsRefusedToRead, IsRefusedToReadBelow, IsRefusedBelow}
+use Rattle.tdb_answer.proofs.Damaged.{unmendable_one}
 
 -- a file is refused in one way
 refusal_one : (img : List ℕ) (r s : Refusal) → IsRefused img r → IsRefused img s → r ≡ s
@@ -201,8 +202,12 @@ task_one Rescue name None x y p q = p ∙ sym q
 task_one Rescue name (Some h) x y p q = rescue_one (seen h) x y p q
 task_one (Print printout limit) name None x y p q = p ∙ sym q
 task_one (Print printout limit) name (Some h) x y p q = print_one limit (seen h) x y p q
+task_one (Mend new) name None x y p q = p ∙ sym q
+task_one (Mend new) name (Some h) x y p q = p.refused ∙ ap Refused (unmendable_one (seen h) p.refusal q.refusal p.right q.right) ∙ sym q.refused
 task_one (Convert new made prefix) name None x y p q = p ∙ sym q
 task_one (Convert new made prefix) name (Some h) x y p q = p.refused ∙ ap Refused (read_below_one made.limit (seen h) p.refusal q.refusal p.right q.right) ∙ sym q.refused
+task_one (Merge into prefix limit) name None x y p q = p ∙ sym q
+task_one (Merge into prefix limit) name (Some h) x y p q = p.refused ∙ ap Refused (read_below_one limit (seen h) p.refusal q.refusal p.right q.right) ∙ sym q.refused
 task_one (Repack limit) name None x y p q = p ∙ sym q
 task_one (Repack limit) name (Some h) x y p q = p.refused ∙ ap Refused (below_one limit (seen h) p.refusal q.refusal p.right q.right) ∙ sym q.refused
 task_one (Create form) name None x y p q = making_one form x y p q

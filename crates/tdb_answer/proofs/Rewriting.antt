@@ -25,7 +25,9 @@ use Rattle.tdb_space.proofs.Sequence.SameRecords.{AllPast, word_beside, magic_pa
 use Rattle.tdb_backup.specs.Filling.{AllUsed}
 use Rattle.tdb_backup.specs.declared.refusal.CopyRefusal.{CopyRefusal}
 use Rattle.tdb_backup.specs.declared.refusal.CopyRefusal.TheVariants as C
+use Rattle.tdb_rewrite.specs.Readable.{Readable}
 use Rattle.tdb_rewrite.specs.Rewritten.{IsBare, Rewritten, RewriteCause, chosen}
+use Rattle.tdb_rewrite.proofs.Readable.{accepted_readable}
 use Rattle.tdb_open.specs.Creating.{IsNewFile, new_file_header}
 use Rattle.tdb_open.specs.Opening.{IsCheckedOn}
 use Rattle.tdb_open.specs.declared.creating.NewForm.{NewForm}
@@ -118,8 +120,8 @@ module _ (img prefix : List ℕ) (o : Opened) (of_source of_new : Header) (form 
   new_form : form_in of_new ≡ made_form form
   new_form = ap form_in as_new
 
-  pub opened_accepted : AcceptWith (form_in of_source) img []
-  opened_accepted = subst (λ f. AcceptWith f img []) (sym source_form) checked.accepted
+  pub opened_readable : Readable (form_in of_source) img
+  opened_readable = accepted_readable (form_in of_source) img [] (subst (λ f. AcceptWith f img []) (sym source_form) checked.accepted)
 
   pub new_bare : (fresh : List ℕ) → IsNewFile form.size form.order form.hash fresh → IsBare (form_in of_new) fresh
   new_bare fresh file =

@@ -1,5 +1,5 @@
 -- What a run says and leaves, from how its task ended and from what the output took.
-use Rattle.std.proofs.Common.{◌≡◌, ◌⊎◌, ℕ, ◌<◌, ◌≤◌, true, false, List, [], ◌∷◌, ◌++◌, Option, None, Some, length, refl, sym, ◌∙◌, ap, subst, inl, inr, arith}
+use Rattle.std.proofs.Common.{◌≡◌, ◌⊎◌, ℕ, ◌<◌, ◌≤◌, true, false, List, [], ◌∷◌, ◌++◌, Option, None, Some, Result, Ok, Err, length, refl, sym, ◌∙◌, ap, subst, inl, inr, arith}
 use Rattle.std.specs.Prelude.{Contains, Bool, IsTrue, IsSome}
 use Rattle.std.proofs.lemmas.Bool.{false≢true}
 use Rattle.std.proofs.lemmas.List.{append-nil}
@@ -10,19 +10,23 @@ use Rattle.tdb_space.specs.Opening.{Opens}
 use Rattle.tdb_cmdline.specs.declared.act.Act.{Act}
 use Rattle.tdb_cmdline.specs.declared.look.Look.{Look}
 use Rattle.tdb_cmdline.specs.declared.ask.Task.{Task}
-use Rattle.tdb_cmdline.specs.declared.ask.Task.TheVariants.{Create, On, Read, Rescue, Print, Repack, Restore, Backup, Verify, Convert, Turns, Session, Generate}
+use Rattle.tdb_cmdline.specs.declared.ask.Task.TheVariants.{Create, On, Read, Rescue, Print, Repack, Restore, Backup, Verify, Convert, Merge, Mend, Turns, Session, Generate}
 use Rattle.tdb_cmdline.specs.declared.lines.create.NewFile.{NewFile}
 use Rattle.tdb_answer.specs.declared.ending.Ending.{Ending}
 use Rattle.tdb_answer.specs.declared.ending.Ending.TheVariants.{Replied, Refused, Missing, There, Usage, DeviceFault, InputFault, Malformed, NoMemory, LogFault}
 use Rattle.tdb_answer.specs.declared.ending.Reply.{Reply}
 use Rattle.tdb_answer.specs.declared.ending.Reply.TheVariants.{Done, Value, Escaped, Dumped, Restored, Copied, Verified, KeyMissing, KeyThere, NoTransaction, Full, Number, Pair, End, Played, Closed, Generated}
+use Rattle.tdb_merge.specs.declared.fault.MergeFault.{MergeFault}
+use Rattle.tdb_merge.specs.declared.fault.MergeFault.TheVariants as M
+use Rattle.tdb_open.specs.declared.halt.Halt.{Halt}
+use Rattle.tdb_open.specs.declared.halt.Halt.TheVariants as H
 use Rattle.tdb_open.specs.declared.halt.Refusal.{Refusal}
 use Rattle.tdb_open.specs.declared.halt.Refusal.TheVariants.{TooLong, Header, Corrupt, NeedsRecovery}
 use Rattle.tdb_open.specs.declared.limits.TheConstants.{LONGEST_FILE}
 use Rattle.tdb_cmdline.specs.Ask.{Ask}
 use Rattle.tdb_cmdline.specs.CopyNames.{temporary_name}
 use Rattle.tdb_answer.specs.Acts.{reply_of, Left}
-use Rattle.tdb_answer.specs.Ending.{status_of, text_of, TakesMemory, PrintedFor, Replies, Refuses, LookReplies, RefusesToRead, RefusesToReadBelow, PrintsOpened, TaskDue, Due, TaskCause, task_due, task_failed, task_wanting, task_unlogged, CountedBy, CountedFor, CountedAsked, has_openers, asks_openers}
+use Rattle.tdb_answer.specs.Ending.{status_of, text_of, TakesMemory, PrintedFor, Replies, Refuses, LookReplies, RefusesToRead, RefusesToReadBelow, RefusesToMend, PrintsOpened, TaskDue, Due, TaskCause, task_due, task_failed, task_wanting, task_unlogged, CountedBy, CountedFor, CountedAsked, has_openers, asks_openers, of_halt}
 use Rattle.tdb_answer.specs.Looks.{look_reply}
 use Rattle.tdb_answer.specs.Printed.{TextBefore, ask_tells, IsSilent, Writes}
 use Rattle.tdb_answer.specs.Left.{ActLeaves, OnLeaves, MakingLeaves, RestoreLeaves, TaskLeaves, MayChange, SameElse, Leaving}
@@ -30,6 +34,10 @@ use Rattle.tdb_answer.specs.Commands.Print.{PrintLeft, PrintLeaves}
 use Rattle.tdb_answer.specs.Commands.Rescue.{RescueDue}
 use Rattle.tdb_answer.specs.Commands.Repack.{RepackEnds, NotRepacked, HasRepacked, RepackLeft}
 use Rattle.tdb_answer.specs.Commands.Convert.{ConvertEnds, ConvertLeft, ConvertLeaves, IsTooLarge, HasNoConversion}
+use Rattle.tdb_answer.specs.Commands.Mend.{MendEnds, MendLeft, MendLeaves, HasNoMending, StaysSynced}
+use Rattle.tdb_answer.specs.Damaged.{CanMend}
+use Rattle.tdb_answer.proofs.Damaged.{not_mended, unmendable_three}
+use Rattle.tdb_answer.specs.Commands.Merge.{merge_told, MergeEnds, MergedOn, MergeLeft, merge_unopened, merge_ran, MergeInto, into_untaken, into_taken, MergeLeaves, file_untaken, file_halted, file_read}
 use Rattle.tdb_answer.specs.Commands.Restore.{of_input, HeardBy}
 use Rattle.tdb_answer.specs.Commands.Backup.{BackupLeaves, EndsBackup, IsLeftOf, IsUntaken}
 use Rattle.tdb_answer.specs.Commands.Verify.{VerifyLeaves, EndsVerify}
@@ -46,8 +54,8 @@ use Rattle.tdb_gen.specs.declared.summary.Summary.{Summary}
 use Rattle.tdb_gen.specs.Summary.{summary_text}
 use Rattle.tdb_answer.specs.Commands.Generate.{HasMade, GenLeaves}
 use Rattle.tdb_open.specs.Opening.{opened_bytes, CanRead, OpensToRead, HeldOrUndone, SameOrUndone, UndoneIfOpen, OpenedBelow}
-use Rattle.tdb_answer.specs.Run.{Run, MayEnd, is_due, is_read, is_copied, is_verified, is_played, is_served, is_generated, is_repacked, is_converted, call_failed, memory_wanting, log_failed, TellsFault, ActsOn, LooksInto, Rescues, PrintsOf, Repacks, Converts, RefusesExactly, KeepsAll, EndsMidway, ActRun, PrintRun, RepackRun, MakingRun, RestoringRun, BackupRun, VerifyRun, ConvertRun, TurnsRun, SessionRun, GeneratingRun, IsCopyName, LeavesFiles, Accounted}
-use Rattle.tdb_answer.proofs.Held.{same_held, same_or_other}
+use Rattle.tdb_answer.specs.Run.{Run, MayEnd, is_due, is_read, is_copied, is_verified, is_played, is_served, is_generated, is_repacked, is_converted, is_merged, is_mended, call_failed, memory_wanting, log_failed, TellsFault, ActsOn, LooksInto, Rescues, PrintsOf, Repacks, Converts, Mends, RefusesExactly, KeepsAll, EndsMidway, ActRun, PrintRun, RepackRun, MakingRun, RestoringRun, BackupRun, VerifyRun, ConvertRun, WasMerged, MergeRun, MendRun, TurnsRun, SessionRun, GeneratingRun, IsCopyName, LeavesFiles, Accounted}
+use Rattle.tdb_answer.proofs.Held.{same_held, same_or_other, held_kept}
 use Rattle.tdb_answer.proofs.Copies.{stopped_kept, stopped_weaker, backup_zero}
 use Rattle.tdb_answer.proofs.Verifying.{verified_zero, all_left_weaker, verify_kept}
 use Rattle.tdb_answer.proofs.OneAnswer.{due_one, below_opened, not_read_below, read_below_faulty, read_below_three, below_faulty, below_three, read_faulty, read_three, unreadable_faulty, unreadable_three}
@@ -230,26 +238,19 @@ asked_cause ask a held input before after e is (inr (inr (inr (inl ends)))) =
     is_generated e ends.commands ends.seed a.file (sym is ∙ ap (λ t. Some (record { file = a.file; task = t })) ends.generates) ends.none ends.ends
 asked_cause ask a held input before after e is (inr (inr (inr (inr (inl ends))))) =
     is_repacked e ends.limit a.file ends.was (sym is ∙ ap (λ t. Some (record { file = a.file; task = t })) ends.repacks) ends.there ends.ends
-asked_cause ask a held input before after e is (inr (inr (inr (inr (inr ends))))) =
+asked_cause ask a held input before after e is (inr (inr (inr (inr (inr (inr (inl ends))))))) =
+    is_mended e ends.new a.file ends.was (sym is ∙ ap (λ t. Some (record { file = a.file; task = t })) ends.mends) ends.there ends.ends
+asked_cause ask a held input before after e is (inr (inr (inr (inr (inr (inr (inr ends))))))) =
+    is_merged e ends.into ends.prefix a.file ends.limit ends.was (sym is ∙ ap (λ t. Some (record { file = a.file; task = t })) ends.merges) ends.there ends.ends
+asked_cause ask a held input before after e is (inr (inr (inr (inr (inr (inl ends)))))) =
     is_converted e ends.made ends.prefix ends.new a.file ends.was (sym is ∙ ap (λ t. Some (record { file = a.file; task = t })) ends.converts) ends.there ends.ends
 asked_cause ask a held input before after e is (inr (inl ends)) =
     is_copied e ends.more ends.suffix a.file (sym is ∙ ap (λ t. Some (record { file = a.file; task = t })) ends.backs_up) ends.ends
 
 -- whether a task copies files
 abbrev task_copies : Task → Bool
-task_copies (Turns options) = false
-task_copies (Session limit) = false
-task_copies (Generate commands seed) = false
 task_copies (Backup more suffix) = true
-task_copies (Verify more suffix) = false
-task_copies (On act) = false
-task_copies (Read look) = false
-task_copies Rescue = false
-task_copies (Print printout limit) = false
-task_copies (Repack limit) = false
-task_copies (Convert new made prefix) = false
-task_copies (Create form) = false
-task_copies (Restore limit) = false
+task_copies task = false
 
 abbrev asks_copies : Option Ask → Bool
 asks_copies None = false
@@ -261,15 +262,7 @@ is_other (Verify more suffix) = true
 is_other (Turns options) = true
 is_other (Session limit) = true
 is_other (Generate commands seed) = true
-is_other (Backup more suffix) = false
-is_other (On act) = false
-is_other (Read look) = false
-is_other Rescue = false
-is_other (Print printout limit) = false
-is_other (Repack limit) = false
-is_other (Convert new made prefix) = false
-is_other (Create form) = false
-is_other (Restore limit) = false
+is_other task = false
 
 abbrev asks_other : Option Ask → Bool
 asks_other None = false
@@ -278,42 +271,39 @@ asks_other (Some ask) = is_other ask.task
 -- a task that writes a file anew
 abbrev repacks : Task → Bool
 repacks (Repack limit) = true
-repacks (Convert new made prefix) = false
-repacks (Verify more suffix) = false
-repacks (Turns options) = false
-repacks (Session limit) = false
-repacks (Generate commands seed) = false
-repacks (Backup more suffix) = false
-repacks (On act) = false
-repacks (Read look) = false
-repacks Rescue = false
-repacks (Print printout limit) = false
-repacks (Create form) = false
-repacks (Restore limit) = false
+repacks task = false
 
 abbrev asks_repack : Option Ask → Bool
 asks_repack None = false
 asks_repack (Some ask) = repacks ask.task
 
--- and one that makes another file of its pairs
+-- and one that makes another file of its pairs, or of what can be read of it
 abbrev converts : Task → Bool
 converts (Convert new made prefix) = true
-converts (Repack limit) = false
-converts (Verify more suffix) = false
-converts (Turns options) = false
-converts (Session limit) = false
-converts (Generate commands seed) = false
-converts (Backup more suffix) = false
-converts (On act) = false
-converts (Read look) = false
-converts Rescue = false
-converts (Print printout limit) = false
-converts (Create form) = false
-converts (Restore limit) = false
+converts (Mend new) = true
+converts task = false
 
 abbrev asks_convert : Option Ask → Bool
 asks_convert None = false
 asks_convert (Some ask) = converts ask.task
+
+-- one that makes another file of what can be read of it
+abbrev mends : Task → Bool
+mends (Mend new) = true
+mends task = false
+
+abbrev asks_mend : Option Ask → Bool
+asks_mend None = false
+asks_mend (Some ask) = mends ask.task
+
+-- and one that stores them into another file
+abbrev merges : Task → Bool
+merges (Merge into prefix limit) = true
+merges task = false
+
+abbrev asks_merge : Option Ask → Bool
+asks_merge None = false
+asks_merge (Some ask) = merges ask.task
 
 -- the name and the limit of such a task
 abbrev asked_file : Option Ask → List ℕ
@@ -344,27 +334,37 @@ module _ (run : Run) (e : Ending) (cause : MayEnd run.ask run.old run.input run.
   abbrev Converting : Type 0 → Type 0
   Converting P = (made : NewFile) (prefix new name : List ℕ) (h : History) → run.ask ≡ Some (record { file = name; task = Convert new made prefix }) → run.old name ≡ Some h → ConvertEnds made prefix (seen h) new (run.old new) e → P
 
-  status_where : (P : ℕ → Type 0) → (Due run.ask run.old e → P (status_of e)) → ((limit : ℕ) (name : List ℕ) → run.ask ≡ Some (record { file = name; task = Restore limit }) → run.old name ≡ None → P (status_of e)) → Copies (P (status_of e)) → Undue (P (status_of e)) → Anew (P (status_of e)) → Converting (P (status_of e)) → P run.status ⊎ TellsFault run.status
-  status_where P due read copies undue anew converting = of e cause prints due read copies undue anew converting
+  abbrev Mending : Type 0 → Type 0
+  Mending P = (new name : List ℕ) (h : History) → run.ask ≡ Some (record { file = name; task = Mend new }) → run.old name ≡ Some h → MendEnds (seen h) new (run.old new) e → P
+
+  abbrev Merging : Type 0 → Type 0
+  Merging P = (into prefix name : List ℕ) (limit : ℕ) (h : History) → run.ask ≡ Some (record { file = name; task = Merge into prefix limit }) → run.old name ≡ Some h → MergeEnds limit (seen h) into (run.old into) e → P
+
+  status_where : (P : ℕ → Type 0) → (Due run.ask run.old e → P (status_of e)) → ((limit : ℕ) (name : List ℕ) → run.ask ≡ Some (record { file = name; task = Restore limit }) → run.old name ≡ None → P (status_of e)) → Copies (P (status_of e)) → Undue (P (status_of e)) → Anew (P (status_of e)) → Converting (P (status_of e)) → Mending (P (status_of e)) → Merging (P (status_of e)) → P run.status ⊎ TellsFault run.status
+  status_where P due read copies undue anew converting mending merging = of e cause prints due read copies undue anew converting mending merging
     where
       of : (x : Ending) → MayEnd run.ask run.old run.input run.faults_before run.faults_after x → Printed tells run x → (Due run.ask run.old x → P (status_of x))
           → ((limit : ℕ) (name : List ℕ) → run.ask ≡ Some (record { file = name; task = Restore limit }) → run.old name ≡ None → P (status_of x)) → Copies (P (status_of x)) → Undue (P (status_of x))
           → ((limit : ℕ) (name : List ℕ) (h : History) → run.ask ≡ Some (record { file = name; task = Repack limit }) → run.old name ≡ Some h → RepackEnds limit (seen h) x → P (status_of x))
-          → ((made : NewFile) (prefix new name : List ℕ) (h : History) → run.ask ≡ Some (record { file = name; task = Convert new made prefix }) → run.old name ≡ Some h → ConvertEnds made prefix (seen h) new (run.old new) x → P (status_of x)) → P run.status ⊎ TellsFault run.status
-      of x c (inr part) due read copies undue anew converting = inr (inr (inr (inl part.exits)))
-      of _ (is_due x d) (inl all) due read copies undue anew converting = inl (subst P (sym all.exits) (due d))
-      of _ (is_read x limit name asks none so) (inl all) due read copies undue anew converting = inl (subst P (sym all.exits) (read limit name asks none))
-      of _ (is_copied x more suffix name asks ends) (inl all) due read copies undue anew converting = inl (subst P (sym all.exits) (copies more suffix name asks))
-      of _ (is_verified x more suffix name text asks ends) (inl all) due read copies undue anew converting = inl (subst P (sym all.exits) (undue (Verify more suffix) name asks refl (λ y none. none)))
-      of _ (is_played x options name asks so) (inl all) due read copies undue anew converting = inl (subst P (sym all.exits) (undue (Turns options) name asks refl (λ y none. none)))
-      of _ (is_served x limit name asks so) (inl all) due read copies undue anew converting = inl (subst P (sym all.exits) (undue (Session limit) name asks refl (λ y none. none)))
-      of _ (is_generated x commands seed name asks none so) (inl all) due read copies undue anew converting =
+          → ((made : NewFile) (prefix new name : List ℕ) (h : History) → run.ask ≡ Some (record { file = name; task = Convert new made prefix }) → run.old name ≡ Some h → ConvertEnds made prefix (seen h) new (run.old new) x → P (status_of x))
+          → ((new name : List ℕ) (h : History) → run.ask ≡ Some (record { file = name; task = Mend new }) → run.old name ≡ Some h → MendEnds (seen h) new (run.old new) x → P (status_of x))
+          → ((into prefix name : List ℕ) (limit : ℕ) (h : History) → run.ask ≡ Some (record { file = name; task = Merge into prefix limit }) → run.old name ≡ Some h → MergeEnds limit (seen h) into (run.old into) x → P (status_of x)) → P run.status ⊎ TellsFault run.status
+      of x c (inr part) due read copies undue anew converting mending merging = inr (inr (inr (inl part.exits)))
+      of _ (is_due x d) (inl all) due read copies undue anew converting mending merging = inl (subst P (sym all.exits) (due d))
+      of _ (is_read x limit name asks none so) (inl all) due read copies undue anew converting mending merging = inl (subst P (sym all.exits) (read limit name asks none))
+      of _ (is_copied x more suffix name asks ends) (inl all) due read copies undue anew converting mending merging = inl (subst P (sym all.exits) (copies more suffix name asks))
+      of _ (is_verified x more suffix name text asks ends) (inl all) due read copies undue anew converting mending merging = inl (subst P (sym all.exits) (undue (Verify more suffix) name asks refl (λ y none. none)))
+      of _ (is_played x options name asks so) (inl all) due read copies undue anew converting mending merging = inl (subst P (sym all.exits) (undue (Turns options) name asks refl (λ y none. none)))
+      of _ (is_served x limit name asks so) (inl all) due read copies undue anew converting mending merging = inl (subst P (sym all.exits) (undue (Session limit) name asks refl (λ y none. none)))
+      of _ (is_generated x commands seed name asks none so) (inl all) due read copies undue anew converting mending merging =
           inl (subst P (sym all.exits) (undue (Generate commands seed) name asks refl (λ y due. subst (λ o. TaskDue (Generate commands seed) name o y) none due)))
-      of _ (is_repacked x limit name h asks there ends) (inl all) due read copies undue anew converting = inl (subst P (sym all.exits) (anew limit name h asks there ends))
-      of _ (is_converted x made prefix new name h asks there ends) (inl all) due read copies undue anew converting = inl (subst P (sym all.exits) (converting made prefix new name h asks there ends))
-      of _ (call_failed a asks rose) (inl all) due read copies undue anew converting = inr (inl all.exits)
-      of _ memory_wanting (inl all) due read copies undue anew converting = inr (inr (inl all.exits))
-      of _ (log_failed a asks) (inl all) due read copies undue anew converting = inr (inr (inr (inr all.exits)))
+      of _ (is_repacked x limit name h asks there ends) (inl all) due read copies undue anew converting mending merging = inl (subst P (sym all.exits) (anew limit name h asks there ends))
+      of _ (is_converted x made prefix new name h asks there ends) (inl all) due read copies undue anew converting mending merging = inl (subst P (sym all.exits) (converting made prefix new name h asks there ends))
+      of _ (is_mended x new name h asks there ends) (inl all) due read copies undue anew converting mending merging = inl (subst P (sym all.exits) (mending new name h asks there ends))
+      of _ (is_merged x into prefix name limit h asks there ends) (inl all) due read copies undue anew converting mending merging = inl (subst P (sym all.exits) (merging into prefix name limit h asks there ends))
+      of _ (call_failed a asks rose) (inl all) due read copies undue anew converting mending merging = inr (inl all.exits)
+      of _ memory_wanting (inl all) due read copies undue anew converting mending merging = inr (inr (inl all.exits))
+      of _ (log_failed a asks) (inl all) due read copies undue anew converting mending merging = inr (inr (inr (inr all.exits)))
 
   -- what is due is what is answered
   pub exactly : (x : Ending) → Due run.ask run.old x → (run.status ≡ status_of x) ⊎ TellsFault run.status
@@ -378,29 +378,37 @@ module _ (run : Run) (e : Ending) (cause : MayEnd run.ask run.old run.input run.
       (λ made prefix new name h asks there ends.
       (let refused : RefusesToReadBelow made.limit (seen h) x = subst (λ o. TaskDue (Convert new made prefix) name o x) there (subst (λ a. Due a run.old x) asks due) in
       absurd (not_read_below made.limit (seen h) refused.refusal ends.within ends.can_read refused.right)))
+      (λ new name h asks there ends.
+      (let refused : RefusesToMend (seen h) x = subst (λ o. TaskDue (Mend new) name o x) there (subst (λ a. Due a run.old x) asks due) in
+      absurd (not_mended (seen h) refused.refusal ends.can_mend refused.right)))
+      (λ into prefix name limit h asks there ends.
+      (let refused : RefusesToReadBelow limit (seen h) x = subst (λ o. TaskDue (Merge into prefix limit) name o x) there (subst (λ a. Due a run.old x) asks due) in
+      absurd (not_read_below limit (seen h) refused.refusal ends.can_merge.0 ends.can_merge.1 refused.right)))
 
   -- the status of a task that ends as is due to what is held at its name, where no call fails and memory suffices
-  status_due : (P : ℕ → Type 0) (task : Task) (name : List ℕ) → run.ask ≡ Some (record { file = name; task = task }) → reads_input task ≡ false → task_copies task ≡ false → is_other task ≡ false → repacks task ≡ false → converts task ≡ false
+  status_due : (P : ℕ → Type 0) (task : Task) (name : List ℕ) → run.ask ≡ Some (record { file = name; task = task }) → reads_input task ≡ false → task_copies task ≡ false → is_other task ≡ false → repacks task ≡ false → converts task ≡ false → merges task ≡ false
       → (TaskDue task name (run.old name) e → P (status_of e)) → P run.status ⊎ TellsFault run.status
-  status_due P task name asks unread alone closed stays none due = status_where P (λ d. due (subst (λ a. Due a run.old e) asks d))
+  status_due P task name asks unread alone closed stays none never due = status_where P (λ d. due (subst (λ a. Due a run.old e) asks d))
       (λ limit other restores none. absurd (false≢true (sym unread ∙ ap ask_reads (sym asks ∙ restores))))
       (λ more suffix other copies. absurd (false≢true (sym alone ∙ ap asks_copies (sym asks ∙ copies))))
       (λ other file also openers undue. absurd (false≢true (sym closed ∙ ap asks_other (sym asks ∙ also) ∙ openers)))
       (λ limit other h also there ends. absurd (false≢true (sym stays ∙ ap asks_repack (sym asks ∙ also))))
       (λ made prefix new other h also there ends. absurd (false≢true (sym none ∙ ap asks_convert (sym asks ∙ also))))
+      (λ new other h also there ends. absurd (false≢true (sym none ∙ ap asks_convert (sym asks ∙ also))))
+      (λ into prefix other limit h also there ends. absurd (false≢true (sym never ∙ ap asks_merge (sym asks ∙ also))))
 
   -- so that of an act and of a look
   act_status : (P : ℕ → Type 0) (act : Act) (name : List ℕ) (h : History) → ActsOn run act name h → (Replies act (seen h) e ⊎ Refuses act.limit (seen h) e → P (status_of e)) → P run.status ⊎ TellsFault run.status
-  act_status P act name h acts due = status_due P (On act) name acts.asks refl refl refl refl refl (λ d. due (subst (λ o. TaskDue (On act) name o e) acts.there d))
+  act_status P act name h acts due = status_due P (On act) name acts.asks refl refl refl refl refl refl (λ d. due (subst (λ o. TaskDue (On act) name o e) acts.there d))
 
   look_status : (P : ℕ → Type 0) (look : Look) (name : List ℕ) (h : History) → LooksInto run look name h → (LookReplies look (seen h) e ⊎ RefusesToRead (seen h) e → P (status_of e)) → P run.status ⊎ TellsFault run.status
-  look_status P look name h into due = status_due P (Read look) name into.asks refl refl refl refl refl (λ d. due (subst (λ o. TaskDue (Read look) name o e) into.there d))
+  look_status P look name h into due = status_due P (Read look) name into.asks refl refl refl refl refl refl (λ d. due (subst (λ o. TaskDue (Read look) name o e) into.there d))
 
   rescue_status : (P : ℕ → Type 0) (name : List ℕ) (h : History) → Rescues run name h → (RescueDue (seen h) e → P (status_of e)) → P run.status ⊎ TellsFault run.status
-  rescue_status P name h of due = status_due P Rescue name of.asks refl refl refl refl refl (λ d. due (subst (λ o. TaskDue Rescue name o e) of.there d))
+  rescue_status P name h of due = status_due P Rescue name of.asks refl refl refl refl refl refl (λ d. due (subst (λ o. TaskDue Rescue name o e) of.there d))
 
   print_status : (P : ℕ → Type 0) (printout : Printout) (limit : ℕ) (name : List ℕ) (h : History) → PrintsOf run printout limit name h → (PrintsOpened limit (seen h) e ⊎ Refuses limit (seen h) e → P (status_of e)) → P run.status ⊎ TellsFault run.status
-  print_status P printout limit name h of due = status_due P (Print printout limit) name of.asks refl refl refl refl refl (λ d. due (subst (λ o. TaskDue (Print printout limit) name o e) of.there d))
+  print_status P printout limit name h of due = status_due P (Print printout limit) name of.asks refl refl refl refl refl refl (λ d. due (subst (λ o. TaskDue (Print printout limit) name o e) of.there d))
 
   -- and that of a file that is written anew
   repack_status : (P : ℕ → Type 0) (limit : ℕ) (name : List ℕ) (h : History) → Repacks run limit name h → (Refuses limit (seen h) e → P (status_of e)) → (RepackEnds limit (seen h) e → P (status_of e)) → P run.status ⊎ TellsFault run.status
@@ -410,6 +418,8 @@ module _ (run : Run) (e : Ending) (cause : MayEnd run.ask run.old run.input run.
       (λ task file also openers undue. absurd (false≢true (ap asks_other (sym of.asks ∙ also) ∙ openers)))
       (λ other file k also there found. ends (same_one other file k (sym (ap asked_file (sym of.asks ∙ also))) (sym (ap asked_limit (sym of.asks ∙ also))) there found))
       (λ made prefix new file k also there found. absurd (false≢true (ap asks_convert (sym of.asks ∙ also))))
+      (λ new file k also there found. absurd (false≢true (ap asks_convert (sym of.asks ∙ also))))
+      (λ into prefix file most k also there found. absurd (false≢true (ap asks_merge (sym of.asks ∙ also))))
     where
       same_one : (other : ℕ) (file : List ℕ) (k : History) → file ≡ name → other ≡ limit → run.old file ≡ Some k → RepackEnds other (seen k) e → RepackEnds limit (seen h) e
       same_one other file k names limits there found =
@@ -427,6 +437,22 @@ module _ (run : Run) (e : Ending) (cause : MayEnd run.ask run.old run.input run.
       (λ other front file at k also there found.
       (let names : at ≡ name = sym (ap asked_file (sym of.asks ∙ also)) in
       ends other front file k (same_held k h (run.old name) (subst (λ n. run.old n ≡ Some k) names there) of.there) found))
+      (λ file at k also there found. absurd (false≢true (ap asks_mend (sym of.asks ∙ also))))
+      (λ into front file limit k also there found. absurd (false≢true (ap asks_merge (sym of.asks ∙ also))))
+
+  -- and of one of which another is made of what can be read of it
+  mend_status : (P : ℕ → Type 0) (new name : List ℕ) (h : History) → Mends run new name h → (RefusesToMend (seen h) e → P (status_of e))
+      → ((file : List ℕ) (k : History) → k ≡ h → MendEnds (seen k) file (run.old file) e → P (status_of e)) → P run.status ⊎ TellsFault run.status
+  mend_status P new name h of due ends = status_where P (λ d. due (subst (λ o. TaskDue (Mend new) name o e) of.there (subst (λ a. Due a run.old e) of.asks d)))
+      (λ other file restores none. absurd (false≢true (ap ask_reads (sym of.asks ∙ restores))))
+      (λ more suffix file copies. absurd (false≢true (ap asks_copies (sym of.asks ∙ copies))))
+      (λ task file also openers undue. absurd (false≢true (ap asks_other (sym of.asks ∙ also) ∙ openers)))
+      (λ limit file k also there found. absurd (false≢true (ap asks_repack (sym of.asks ∙ also))))
+      (λ other front file at k also there found. absurd (false≢true (sym (ap asks_mend (sym of.asks ∙ also)))))
+      (λ file at k also there found.
+      (let names : at ≡ name = sym (ap asked_file (sym of.asks ∙ also)) in
+      ends file k (same_held k h (run.old name) (subst (λ n. run.old n ≡ Some k) names there) of.there) found))
+      (λ into front file limit k also there found. absurd (false≢true (ap asks_merge (sym of.asks ∙ also))))
 
   -- over bytes that can be opened the status isn't 3, and over others, no more than the most, it is
   not_three : (act : Act) (h : History) → Opens (seen h) → Replies act (seen h) e ⊎ Refuses act.limit (seen h) e → status_of e ≡ 3 → ⊥
@@ -463,6 +489,14 @@ module _ (run : Run) (e : Ending) (cause : MayEnd run.ask run.old run.input run.
       of (inr (inl large)) = let six : status_of e ≡ 6 = ap status_of (large.2 ∙ ap Refused large.1.2) in absurd (omega (arith, six, is))
       of (inr (inr (inl done))) = let zero : status_of e ≡ 0 = ap status_of done.1 in absurd (omega (arith, zero, is))
       of (inr (inr (inr full))) = reply_not full.0 3 (omega arith) (λ z. absurd (omega (arith, z))) (sym (ap status_of full.3) ∙ is)
+
+  mend_not_three : (new : List ℕ) (k : History) → MendEnds (seen k) new (run.old new) e → status_of e ≡ 3 → ⊥
+  mend_not_three new k p is = of p.ends
+    where
+      of : (IsSome (run.old new) × (e ≡ There new)) ⊎ ((run.old new ≡ None) × (e ≡ Replied Copied)) ⊎ ((reply : Reply) × (run.old new ≡ None) × HasNoMending (seen k) reply × (e ≡ Replied reply)) → ⊥
+      of (inl there) = let nine : status_of e ≡ 9 = ap status_of there.1 in absurd (omega (arith, nine, is))
+      of (inr (inl done)) = let zero : status_of e ≡ 0 = ap status_of done.1 in absurd (omega (arith, zero, is))
+      of (inr (inr full)) = reply_not full.0 3 (omega arith) (λ z. absurd (omega (arith, z))) (sym (ap status_of full.3) ∙ is)
 
   -- the same of a look
   read_not_three : (look : Look) (h : History) → OpensToRead (seen h) → LookReplies look (seen h) e ⊎ RefusesToRead (seen h) e → status_of e ≡ 3 → ⊥
@@ -514,6 +548,10 @@ module _ (run : Run) (e : Ending) (cause : MayEnd run.ask run.old run.input run.
         (λ other front file k same found.
         (let can : CanRead (seen h) = subst (λ x. CanRead (seen x)) same found.can_read in
         absurd (faulty (record { opens = can.can_open.opens; shut = can.shut }))));
+    mend_only = λ new name h of three can.
+        unless_three (mend_status (λ n. n ≡ 3 → ⊥) new name h of (λ p is. absurd (not_mended (seen h) p.refusal can p.right)) (λ file k same found. mend_not_three file k found)) three;
+    mend_exact = λ new name h of faulty short.
+        mend_status (λ n. n ≡ 3) new name h of (λ p. ap status_of p.refused ∙ unmendable_three (seen h) p.refusal p.right short) (λ file k same found. absurd (faulty (subst (λ x. CanMend (seen x)) same found.can_mend)));
   }
 
 -- an act that didn't reply that it is done left the file as it was opened
@@ -920,11 +958,13 @@ asked_counted tells (Some ask) before after t told counted = of ask.task counted
     of (Print printout limit) counted = counted
     of (Repack limit) counted = counted
     of (Convert new made prefix) counted = counted
+    of (Mend new) counted = counted
     of (Create form) counted = counted
     of (Restore limit) counted = counted
     of (Backup more suffix) counted = counted
     of (Verify more suffix) counted = counted
     of (Turns options) counted = record { never_falls = counted.never_falls; failed = λ is. counted.failed is told; sound = counted.sound }
+    of (Merge into prefix limit) counted = record { never_falls = counted.never_falls; failed = λ is. counted.failed is told; sound = counted.sound }
     of (Session limit) counted = record { never_falls = counted.never_falls; failed = λ is. counted.failed is told; sound = counted.sound }
     of (Generate commands seed) counted = record { never_falls = counted.never_falls; failed = λ is. counted.failed is told; sound = counted.sound }
 
@@ -939,11 +979,13 @@ asked_failed tells (Some ask) before after t counted is none = of ask.task none 
     of (Print printout limit) none counted = counted.failed is
     of (Repack limit) none counted = counted.failed is
     of (Convert new made prefix) none counted = counted.failed is
+    of (Mend new) none counted = counted.failed is
     of (Create form) none counted = counted.failed is
     of (Restore limit) none counted = counted.failed is
     of (Backup more suffix) none counted = counted.failed is
     of (Verify more suffix) none counted = counted.failed is
     of (Turns options) none counted = absurd (false≢true (sym none))
+    of (Merge into prefix limit) none counted = absurd (false≢true (sym none))
     of (Session limit) none counted = absurd (false≢true (sym none))
     of (Generate commands seed) none counted = absurd (false≢true (sym none))
 
@@ -958,11 +1000,13 @@ asked_sound tells (Some ask) before after t counted other = of ask.task counted
     of (Print printout limit) counted = counted.sound other
     of (Repack limit) counted = counted.sound other
     of (Convert new made prefix) counted = counted.sound other
+    of (Mend new) counted = counted.sound other
     of (Create form) counted = counted.sound other
     of (Restore limit) counted = counted.sound other
     of (Backup more suffix) counted = counted.sound other
     of (Verify more suffix) counted = counted.sound other
     of (Turns options) counted = counted.sound other
+    of (Merge into prefix limit) counted = counted.sound other
     of (Session limit) counted = counted.sound other
     of (Generate commands seed) counted = counted.sound other
 
@@ -1160,6 +1204,120 @@ module _ (before after status : ℕ) where
   convert_run made prefix file new held old now t out counted silent (inl (same, inr (inr is))) = convert_same made prefix held old now same (memory_some (subst (Exits status) is out))
   convert_run made prefix file new held old now t out counted silent (inr left) = convert_left made prefix new left.0 held old now t left.1 out counted silent left.2
 
+  -- and of one that is to be made of what can be read of another one
+  mend_same : (held old now : Option History) → now ≡ old → (status ≡ 0 → ⊥) → MendRun held old before after status now
+  mend_same held old now same some = record { done = λ is. absurd (some is); there = λ there. same; kept = λ zero four. inl same }
+
+  mend_fault : (held old now : Option History) → Exits status DeviceFault → CountedBy before after DeviceFault → (IsSome old → now ≡ old) → MendRun held old before after status now
+  mend_fault held old now out counted there = record {
+    done = λ is. absurd (fault_no_done before after status (fault_exits before after status out) is);
+    there = there;
+    kept = λ zero four. elim (fault_exits before after status out) [ inl is ↦ absurd (four is) | inr eight ↦ inr (eight, counted.failed refl) ];
+  }
+
+  mend_left : (new : List ℕ) (h : History) (held old now : Option History) (t : Ending) → held ≡ Some h → Exits status t → CountedBy before after t → (t ≡ Replied Copied → status ≡ 0) → MendLeft (seen h) new old t now
+      → MendRun held old before after status now
+  mend_left new h held old now (Replied reply) there out counted silent (inl done) =
+      let zero : status ≡ 0 = silent (ap Replied done.0) in
+      record {
+        done = λ is. record { was = h; there = there; mends = done.1 };
+        there = λ some. absurd (false≢true (subst IsSome done.1.1 some));
+        kept = λ other four. absurd (other zero);
+      }
+  mend_left new h held old now (Replied reply) there out counted silent (inr full) =
+      mend_same held old now (full.3 ∙ sym full.1) (full_some full.2.0 full.2.1 (subst (λ r. Exits status (Replied r)) full.2.2 out))
+  mend_left new h held old now (Refused r) there out counted silent left = mend_same held old now left.1 (λ is. refusal_apart before after status r out (inl is))
+  mend_left new h held old now (There name) there out counted silent left = mend_same held old now left.3 (there_some name out)
+  mend_left new h held old now DeviceFault there out counted silent left = mend_fault held old now out counted left
+  mend_left new h held old now NoMemory there out counted silent left = mend_same held old now left (memory_some out)
+  mend_left new h held old now LogFault there out counted silent left = absurd left
+  mend_left new h held old now (Missing name) there out counted silent left = absurd left
+  mend_left new h held old now Usage there out counted silent left = absurd left
+  mend_left new h held old now InputFault there out counted silent left = absurd left
+  mend_left new h held old now (Malformed at) there out counted silent left = absurd left
+
+  mend_run : (file new : List ℕ) (held old now : Option History) (t : Ending) → Exits status t → CountedBy before after t → (t ≡ Replied Copied → status ≡ 0) → MendLeaves file new held old t now → MendRun held old before after status now
+  mend_run file new held old now t out counted silent (inl (same, inl missing)) = mend_same held old now same (missing_some file (subst (Exits status) missing.1 out))
+  mend_run file new held old now t out counted silent (inl (same, inr (inl is))) = mend_fault held old now (subst (Exits status) is out) (subst (CountedBy before after) is counted) (λ some. same)
+  mend_run file new held old now t out counted silent (inl (same, inr (inr is))) = mend_same held old now same (memory_some (subst (Exits status) is out))
+  mend_run file new held old now t out counted silent (inr left) = mend_left new left.0 held old now t left.1 out counted silent left.2
+
+  -- what a run leaves at the name of a file into which the pairs of another one are to be stored: the status isn't 0
+  -- unless they were stored
+  halt_some : (halt : Halt) → Exits status (of_halt halt) → status ≡ 0 → ⊥
+  halt_some (H.Refused refusal) out is = refusal_apart before after status refusal out (inl is)
+  halt_some H.Device out is = fault_no_done before after status (fault_exits before after status out) is
+  halt_some H.Memory out is = memory_some out is
+  halt_some H.Log out is = either_not before after status 10 8 0 (λ z. absurd (omega (arith, z))) (λ z. absurd (omega (arith, z))) (log_exits before after status out) is
+
+  untaken_some : (name : List ℕ) (held : Option History) (t : Ending) → IsUntaken name held t → Exits status t → status ≡ 0 → ⊥
+  untaken_some name held t (inl missing) out is = missing_some name (subst (Exits status) missing.1 out) is
+  untaken_some name held t (inr (inl fault)) out is = halt_some H.Device (subst (Exits status) fault out) is
+  untaken_some name held t (inr (inr wanting)) out is = memory_some (subst (Exits status) wanting out) is
+
+  merge_answered : (answer : Result (Unit {0}) MergeFault) → Exits status (merge_told answer) → status ≡ 0 → answer ≡ Ok tt
+  merge_answered (Ok v) out is = refl
+  merge_answered (Err (M.Full len need)) out is = absurd (full_some len need out is)
+  merge_answered (Err M.Starved) out is = absurd (memory_some out is)
+  merge_answered (Err M.Read) out is = absurd (halt_some H.Device out is)
+  merge_answered (Err M.Device) out is = absurd (halt_some H.Device out is)
+  merge_answered (Err M.Log) out is = absurd (halt_some H.Log out is)
+  merge_answered (Err M.Memory) out is = absurd (memory_some out is)
+
+  module _ (limit : ℕ) (prefix file into : List ℕ) (held old now : Option History) where
+    merged_all : (img : List ℕ) (k m : History) (t : Ending) → MergeLeft limit prefix img k m t → Exits status t → status ≡ 0 → MergedOn limit prefix img k m (Ok tt)
+    merged_all img k m _ (merge_unopened halt opened safe) out is = absurd (halt_some halt out is)
+    merged_all img k m _ (merge_ran answer on) out is = subst (MergedOn limit prefix img k m) (merge_answered answer out is) on
+
+    merged_into : (h : History) (t : Ending) → held ≡ Some h → MergeInto limit prefix (seen h) into old now t → Exits status t → status ≡ 0 → WasMerged limit prefix held old now
+    merged_into h t there (into_untaken same untaken) out is = absurd (untaken_some into old t untaken out is)
+    merged_into h t there (into_taken k m stood stands left) out is = record { was = h; there = there; before = k; stood = stood; after = m; stands = stands; merged = merged_all (seen h) k m t left out is }
+
+    merged_done : (t : Ending) → MergeLeaves limit prefix file into held old t now → Exits status t → status ≡ 0 → WasMerged limit prefix held old now
+    merged_done t (file_untaken same untaken) out is = absurd (untaken_some file held t untaken out is)
+    merged_done t (file_halted h halt there same right ends) out is = absurd (halt_some halt (subst (Exits status) ends out) is)
+    merged_done t (file_read h there can left) out is = merged_into h t there left out is
+
+    merge_exits : (t : Ending) → Exits status t → (status ≡ status_of t) ⊎ (status ≡ 5) ⊎ (status ≡ 8)
+    merge_exits t (inl own) = inl own
+    merge_exits t (inr (inl want)) = inr (inl want.0)
+    merge_exits t (inr (inr eight)) = inr (inr eight)
+
+    merge_run : (t : Ending) → Exits status t → MergeLeaves limit prefix file into held old t now → MergeRun limit prefix file into held old status now
+    merge_run t out left = record { ending = t; exits = merge_exits t out; left = left; done = λ is. merged_done t left out is }
+
+  -- it is as it was, or undone, where the status says neither that they were stored, nor that there was no room for them,
+  -- nor of a fault, nor of want of memory
+  module _ (keeps : KeepsAll status) (five : status ≡ 5 → ⊥) (six : status ≡ 6 → ⊥) where
+    merge_ended : (answer : Result (Unit {0}) MergeFault) → Exits status (merge_told answer) → ⊥
+    merge_ended (Ok v) (inl own) = keeps.0 own
+    merge_ended (Ok v) (inr (inl want)) = five want.0
+    merge_ended (Ok v) (inr (inr eight)) = keeps.2 eight
+    merge_ended (Err (M.Full len need)) (inl own) = six own
+    merge_ended (Err (M.Full len need)) (inr (inl want)) = five want.0
+    merge_ended (Err (M.Full len need)) (inr (inr eight)) = keeps.2 eight
+    merge_ended (Err M.Starved) out = memory_no_keep before after status (memory_exits before after status out) keeps five
+    merge_ended (Err M.Read) out = fault_no_keep before after status (fault_exits before after status out) keeps
+    merge_ended (Err M.Device) out = fault_no_keep before after status (fault_exits before after status out) keeps
+    merge_ended (Err M.Log) out = log_no_keep before after status (log_exits before after status out) keeps
+    merge_ended (Err M.Memory) out = memory_no_keep before after status (memory_exits before after status out) keeps five
+
+    merge_same : (limit : ℕ) (prefix img : List ℕ) (k m : History) (t : Ending) → Exits status t → MergeLeft limit prefix img k m t → SameOrUndone k m
+    merge_same limit prefix img k m _ out (merge_unopened (H.Refused refusal) opened safe) = opened_same (session_options limit) k m opened.1
+    merge_same limit prefix img k m _ out (merge_unopened H.Device opened safe) = absurd (fault_no_keep before after status (fault_exits before after status out) keeps)
+    merge_same limit prefix img k m _ out (merge_unopened H.Memory opened safe) = opened
+    merge_same limit prefix img k m _ out (merge_unopened H.Log opened safe) = opened
+    merge_same limit prefix img k m _ out (merge_ran answer on) = absurd (merge_ended answer out)
+
+    into_same : (limit : ℕ) (prefix img into : List ℕ) (old now : Option History) (t : Ending) → Exits status t → MergeInto limit prefix img into old now t → HeldOrUndone old now
+    into_same limit prefix img into old now t out (into_untaken same untaken) = inl same
+    into_same limit prefix img into old now t out (into_taken k m stood stands left) = held_kept old now k m stood stands (merge_same limit prefix img k m t out left)
+
+    merge_kept : (limit : ℕ) (prefix file into : List ℕ) (held old now : Option History) (t : Ending) → Exits status t → MergeLeaves limit prefix file into held old t now → HeldOrUndone old now
+    merge_kept limit prefix file into held old now t out (file_untaken same untaken) = inl same
+    merge_kept limit prefix file into held old now t out (file_halted h halt there same right ends) = inl same
+    merge_kept limit prefix file into held old now t out (file_read h there can left) = into_same limit prefix (seen h) into old now t out left
+
 module _ (before after status : ℕ) where
   -- the statuses of the endings of generated commands
   done_exits : (text : List ℕ) → Exits status (Replied (Generated text)) → (status ≡ 0) ⊎ (status ≡ 8)
@@ -1280,6 +1438,18 @@ module _ (run : Run) (logs later : List Logged) (t : Ending) (out : Exits run.st
       let at = asked_left (Convert new made prefix) name asks in
       (at.0, convert_run run.faults_before run.faults_after run.status made prefix name new (run.old name) (run.old new) (run.now new) t out counted (λ done. silent (inr (inl done))) at.1)
 
+  mended : (new name : List ℕ) → run.ask ≡ Some (record { file = name; task = Mend new })
+      → StaysSynced (run.old name) (run.now name) × MendRun (run.old name) (run.old new) run.faults_before run.faults_after run.status (run.now new)
+  mended new name asks =
+      let at = asked_left (Mend new) name asks in
+      (at.0, mend_run run.faults_before run.faults_after run.status name new (run.old name) (run.old new) (run.now new) t out counted (λ done. silent (inr (inl done))) at.1)
+
+  merged : (into prefix name : List ℕ) (limit : ℕ) → run.ask ≡ Some (record { file = name; task = Merge into prefix limit })
+      → (run.now name ≡ run.old name) × MergeRun limit prefix name into (run.old name) (run.old into) run.status (run.now into)
+  merged into prefix name limit asks =
+      let at = asked_left (Merge into prefix limit) name asks in
+      (at.0, merge_run run.faults_before run.faults_after run.status limit prefix name into (run.old name) (run.old into) (run.now into) t out at.1)
+
   turned : (options : Options) (name : List ℕ) (old : History) → run.ask ≡ Some (record { file = name; task = Turns options }) → run.old name ≡ Some old
       → (h : History) × (run.now name ≡ Some h) × TurnsRun options run.input run.output old run.faults_before run.faults_after run.status h logs later
   turned options name old asks there =
@@ -1366,7 +1536,7 @@ module _ (run : Run) (logs later : List Logged) (t : Ending) (out : Exits run.st
   task_kept keeps (Print printout limit) file name asks midway same at copy = at_name name file (print_kept keeps limit file (run.old file) at) (same name)
   task_kept keeps (Repack limit) file name asks midway same at copy =
       at_name name file (repack_kept keeps limit file asks (run.old file) refl)
-      (λ other. same name (λ may. elim may [ inl own ↦ other own | inr made ↦ copy (inr (limit, file, refl, made)) ]))
+      (λ other. same name (λ may. elim may [ inl own ↦ other own | inr made ↦ copy (inr (inl (limit, file, refl, made))) ]))
   task_kept keeps (Convert new made prefix) file name asks midway same at copy =
       at_name name file (inl at.0)
       (λ other. at_other name new (λ is. same name (λ may. elim may [ inl own ↦ other own | inr made ↦ is made ])) ((converted made prefix new file asks).1.kept keeps.0 keeps.1))
@@ -1377,6 +1547,24 @@ module _ (run : Run) (logs later : List Logged) (t : Ending) (out : Exits run.st
         | inl is ↦ subst (λ n. run.now n ≡ run.old n) (sym is) kept
         | inr other ↦ apart other
       ]
+  task_kept keeps (Mend new) file name asks midway same at copy = elim (same_or_other name file) [
+    | inl is ↦ absurd (copy (inr (inr (new, ap (λ n. Some (record { file = n; task = Mend new })) (sym is)))))
+    | inr other ↦ inl (at_other name new (λ apart. same name (λ may. elim may [ inl own ↦ other own | inr made ↦ apart made ])) ((mended new file asks).1.kept keeps.0 keeps.1))
+  ]
+    where
+      at_other : (name new : List ℕ) → ((name ≡ new → ⊥) → run.now name ≡ run.old name) → (run.now new ≡ run.old new) ⊎ ((run.status ≡ 8) × Rose run.faults_before run.faults_after) → run.now name ≡ run.old name
+      at_other name new apart (inr eight) = absurd (keeps.2 eight.0)
+      at_other name new apart (inl kept) = elim (same_or_other name new) [
+        | inl is ↦ subst (λ n. run.now n ≡ run.old n) (sym is) kept
+        | inr other ↦ apart other
+      ]
+  task_kept keeps (Merge into prefix limit) file name asks midway same at copy =
+      at_name name into
+      (merge_kept run.faults_before run.faults_after run.status keeps (λ is. midway (inl is)) (λ is. midway (inr is)) limit prefix file into (run.old file) (run.old into) (run.now into) t out at.1)
+      (λ apart. elim (same_or_other name file) [
+        | inl own ↦ subst (λ n. run.now n ≡ run.old n) (sym own) at.0
+        | inr other ↦ same name (λ may. elim may [ inl own ↦ other own | inr made ↦ apart made ])
+      ])
   task_kept keeps (Create form) file name asks midway same at copy =
       at_name name file
       (elim ((making_run run.faults_before run.faults_after run.status form (run.old file) (run.now file) t out counted at).kept keeps) [
@@ -1430,6 +1618,8 @@ module _ (run : Run) (logs later : List Logged) (t : Ending) (out : Exits run.st
     repacked = repacked;
     unrepacked = unrepacked;
     converted = converted;
+    mended = mended;
+    merged = merged;
     turned = turned;
     unturned = λ options name asks none. subst (λ o. TurnsLeave options o t (run.now name)) none (asked_left (Turns options) name asks);
     served = served;

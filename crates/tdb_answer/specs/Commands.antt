@@ -15,6 +15,8 @@ pub mod Rescue
 pub mod Rewriting
 pub mod Repack
 pub mod Convert
+pub mod Mend
+pub mod Merge
 pub mod Restore
 pub mod Backup
 pub mod Verify

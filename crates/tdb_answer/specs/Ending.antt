@@ -11,7 +11,7 @@ use Rattle.tdb_dump.specs.Line.{data_line, pair_line}
 use Rattle.tdb_cmdline.specs.declared.act.Act.{Act}
 use Rattle.tdb_cmdline.specs.declared.look.Look.{Look}
 use Rattle.tdb_cmdline.specs.declared.ask.Task.{Task}
-use Rattle.tdb_cmdline.specs.declared.ask.Task.TheVariants.{Create, On, Read, Rescue, Print, Repack, Restore, Backup, Verify, Convert, Turns, Session, Generate}
+use Rattle.tdb_cmdline.specs.declared.ask.Task.TheVariants.{Create, On, Read, Rescue, Print, Repack, Restore, Backup, Verify, Convert, Merge, Mend, Turns, Session, Generate}
 use Rattle.tdb_answer.specs.declared.ending.Ending.{Ending}
 use Rattle.tdb_answer.specs.declared.ending.Ending.TheVariants.{Replied, Refused, Missing, There, Usage, DeviceFault, InputFault, Malformed, NoMemory, LogFault}
 use Rattle.tdb_answer.specs.declared.ending.Reply.TheVariants.{Done, Value, Escaped, Dumped, Restored, Copied, Verified, KeyMissing, KeyThere, NoTransaction, Full, Number, Pair, End, Played, Closed, Generated}
@@ -25,6 +25,7 @@ use Rattle.tdb_open.specs.Creating.{new_length}
 use Rattle.tdb_answer.specs.Acts.{reply_of}
 use Rattle.tdb_answer.specs.Looks.{look_reply}
 use Rattle.tdb_answer.specs.Commands.Rescue.{RescueDue}
+use Rattle.tdb_answer.specs.Damaged.{IsUnmendable}
 use Rattle.tdb_answer.specs.Output.{Output}
 use Rattle.tdb_open.specs.Opening.{opened_bytes, CanOpen, CanRead, IsRefusedToRead, IsRefusedToReadBelow, IsRefusedBelow}
 
@@ -122,6 +123,12 @@ pub record RefusesToReadBelow (limit : ℕ) (img : List ℕ) (e : Ending) : Type
   pub right : IsRefusedToReadBelow limit img refusal
   pub refused : e ≡ Refused refusal
 
+-- the file with these bytes can't be mended, and is refused so
+pub record RefusesToMend (img : List ℕ) (e : Ending) : Type 0 where
+  pub refusal : Refusal
+  pub right : IsUnmendable img refusal
+  pub refused : e ≡ Refused refusal
+
 -- the file with these bytes, which may have so many, is opened, and what was asked for is printed of it
 pub record PrintsOpened (limit : ℕ) (img : List ℕ) (e : Ending) : Type 0 where
   pub within : length img ≤ limit
@@ -138,7 +145,8 @@ MakingDue file e =
 -- file is depends on its input, as turns and a session do, how a backup and a verification end on all their files
 -- (`BackupEnds`, `VerifyEnds`), and how generated commands end on how they were done (`GenSo`), so none is due to what
 -- is held at one name. Where a file that is written anew isn't refused, it depends on where its records come to lie
--- (`RepackEnds`), as where another file is made of its pairs, and on what stands at the name of that (`ConvertEnds`).
+-- (`RepackEnds`), as where another file is made of its pairs, or they are stored into one, and on what stands at the
+-- name of that (`ConvertEnds`, `MendEnds`, `MergeEnds`).
 abbrev pub TaskDue : Task → List ℕ → Option History → Ending → Type 0
 TaskDue (On act) name None e = e ≡ Missing name
 TaskDue (On act) name (Some h) e = Replies act (seen h) e ⊎ Refuses act.limit (seen h) e
@@ -158,6 +166,10 @@ TaskDue (Backup more suffix) name held e = ⊥
 TaskDue (Verify more suffix) name held e = ⊥
 TaskDue (Convert new made prefix) name None e = e ≡ Missing name
 TaskDue (Convert new made prefix) name (Some h) e = RefusesToReadBelow made.limit (seen h) e
+TaskDue (Mend new) name None e = e ≡ Missing name
+TaskDue (Mend new) name (Some h) e = RefusesToMend (seen h) e
+TaskDue (Merge into prefix limit) name None e = e ≡ Missing name
+TaskDue (Merge into prefix limit) name (Some h) e = RefusesToReadBelow limit (seen h) e
 TaskDue (Turns options) name held e = ⊥
 TaskDue (Session limit) name held e = ⊥
 TaskDue (Generate commands seed) name None e = ⊥
@@ -188,7 +200,7 @@ pub record CountedIf (tells : Bool) (before after : ℕ) (e : Ending) : Type 0 w
   pub failed : e ≡ DeviceFault → IsTrue tells → Rose before after
   pub sound : (e ≡ DeviceFault → ⊥) → after ≡ before
 
--- the tasks whose commands are those of openers: turns, a session and generated commands
+-- the tasks whose commands are those of openers: turns, a session, generated commands, and pairs that are merged
 abbrev pub has_openers : Task → Bool
 has_openers (On act) = false
 has_openers (Read look) = false
@@ -200,6 +212,8 @@ has_openers (Restore limit) = false
 has_openers (Backup more suffix) = false
 has_openers (Verify more suffix) = false
 has_openers (Convert new made prefix) = false
+has_openers (Mend new) = false
+has_openers (Merge into prefix limit) = true
 has_openers (Turns options) = true
 has_openers (Session limit) = true
 has_openers (Generate commands seed) = true
@@ -220,6 +234,8 @@ CountedFor tells (Restore limit) before after e = CountedBy before after e
 CountedFor tells (Backup more suffix) before after e = CountedBy before after e
 CountedFor tells (Verify more suffix) before after e = CountedBy before after e
 CountedFor tells (Convert new made prefix) before after e = CountedBy before after e
+CountedFor tells (Mend new) before after e = CountedBy before after e
+CountedFor tells (Merge into prefix limit) before after e = CountedIf tells before after e
 CountedFor tells (Turns options) before after e = CountedIf tells before after e
 CountedFor tells (Session limit) before after e = CountedIf tells before after e
 CountedFor tells (Generate commands seed) before after e = CountedIf tells before after e

@@ -15,7 +15,7 @@ use Rattle.tdb_open.specs.declared.opening.Opened.{Opened}
 use Rattle.tdb_cmdline.specs.CopyNames.{copy_name}
 use Rattle.tdb_cmdline.specs.Ask.{Ask}
 use Rattle.tdb_cmdline.specs.declared.ask.Task.{Task}
-use Rattle.tdb_cmdline.specs.declared.ask.Task.TheVariants.{Create, On, Read, Rescue, Print, Repack, Restore, Backup, Verify, Convert, Turns, Session, Generate}
+use Rattle.tdb_cmdline.specs.declared.ask.Task.TheVariants.{Create, On, Read, Rescue, Print, Repack, Restore, Backup, Verify, Convert, Merge, Mend, Turns, Session, Generate}
 use Rattle.tdb_answer.specs.declared.ending.Ending.{Ending}
 use Rattle.tdb_answer.specs.declared.ending.Ending.TheVariants.{Replied, DeviceFault, NoMemory, LogFault}
 use Rattle.tdb_answer.specs.declared.ending.Reply.{Reply}
@@ -89,6 +89,11 @@ abbrev pub ConvertHeard : ℕ → Option History → Ending → List Logged → 
 ConvertHeard limit None e old new = NothingHeard e old new
 ConvertHeard limit (Some h) e old new = FileHeard (seen h) (ReadingBelowHeard limit (seen h)) e (ToldFor e []) old new
 
+-- and where it was so opened, and its pairs are stored into another one: nothing is said of what they heard of that
+abbrev pub MergeHeard : ℕ → Option History → Ending → List Logged → List Logged → Type 0
+MergeHeard limit None e old new = NothingHeard e old new
+MergeHeard limit (Some h) e old new = FileHeard (seen h) (ReadingBelowHeard limit (seen h)) e (λ mid later. Unit {0}) old new
+
 -- and where it was opened to be copied or counted
 abbrev pub OpenHeard : Option History → Ending → List Logged → List Logged → Type 0
 OpenHeard None e old new = NothingHeard e old new
@@ -124,7 +129,7 @@ VerifyHeard suffix (file ∷ files) held e old new =
     ⊎ ((mid : List Logged) × CountHeard (held file) (held (copy_name suffix file)) (Replied Verified) old mid × VerifyHeard suffix files held e mid new)
 
 -- What logs heard of a task on the file of this name that ended so, by what was held at each name before and after. The
--- making of a file, of the pairs on the input too, and a rescue tell them nothing.
+-- making of a file, of the pairs on the input too, a rescue and a mending tell them nothing.
 abbrev pub TaskHeard : Task → List ℕ → (List ℕ → Option History) → (List ℕ → Option History) → Ending → List Logged → List Logged → Type 0
 TaskHeard (On act) name held now e old new = ActHeard act.limit (held name) (now name) e old new
 TaskHeard (Read look) name held now e old new = LookHeard (held name) e old new
@@ -136,6 +141,8 @@ TaskHeard (Restore limit) name held now e old new = NothingHeard e old new
 TaskHeard (Backup more suffix) name held now e old new = BackupHeard (name ∷ more) held e old new
 TaskHeard (Verify more suffix) name held now e old new = VerifyHeard suffix (name ∷ more) held e old new
 TaskHeard (Convert other made prefix) name held now e old new = ConvertHeard made.limit (held name) e old new
+TaskHeard (Mend other) name held now e old new = NothingHeard e old new
+TaskHeard (Merge into prefix limit) name held now e old new = MergeHeard limit (held name) e old new
 TaskHeard (Turns options) name held now e old new = TurnsHeard options (held name) e old new
 TaskHeard (Session limit) name held now e old new = SessionHeard limit (held name) e old new
 TaskHeard (Generate commands seed) name held now e old new = GenHeard commands seed (now name) e old new

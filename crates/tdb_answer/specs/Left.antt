@@ -3,7 +3,7 @@ use Rattle.std.specs.Prelude.{◌≡◌, ◌<◌, ◌⊎◌, ℕ, true, false, I
 use Rattle.tdb_disk.specs.History.{History, seen}
 use Rattle.tdb_cmdline.specs.declared.act.Act.{Act}
 use Rattle.tdb_cmdline.specs.declared.ask.Task.{Task}
-use Rattle.tdb_cmdline.specs.declared.ask.Task.TheVariants.{Create, On, Read, Rescue, Print, Repack, Restore, Backup, Verify, Convert, Turns, Session, Generate}
+use Rattle.tdb_cmdline.specs.declared.ask.Task.TheVariants.{Create, On, Read, Rescue, Print, Repack, Restore, Backup, Verify, Convert, Merge, Mend, Turns, Session, Generate}
 use Rattle.tdb_answer.specs.declared.ending.Ending.{Ending}
 use Rattle.tdb_answer.specs.declared.ending.Ending.TheVariants.{Replied, Refused, Missing, There, Usage, DeviceFault, InputFault, Malformed, NoMemory, LogFault}
 use Rattle.tdb_answer.specs.declared.ending.Reply.TheVariants.{Done, Restored}
@@ -19,6 +19,8 @@ use Rattle.tdb_answer.specs.Commands.Create.{LeftEmpty, CreateLeaves}
 use Rattle.tdb_answer.specs.Commands.Print.{PrintLeaves}
 use Rattle.tdb_answer.specs.Commands.Repack.{RepackLeaves}
 use Rattle.tdb_answer.specs.Commands.Convert.{ConvertLeaves}
+use Rattle.tdb_answer.specs.Commands.Mend.{MendLeaves, StaysSynced}
+use Rattle.tdb_answer.specs.Commands.Merge.{MergeLeaves}
 use Rattle.tdb_answer.specs.Commands.Restore.{IsRestored}
 use Rattle.tdb_answer.specs.Commands.Session.{StaysThere}
 use Rattle.tdb_answer.specs.Commands.Turns.{TurnsLeave}
@@ -84,6 +86,8 @@ TaskLeaves input (Restore limit) file old e now = RestoreLeaves input (old file)
 TaskLeaves input (Backup more suffix) file old e now = BackupLeaves suffix (file ∷ more) old e now
 TaskLeaves input (Verify more suffix) file old e now = VerifyLeaves suffix (file ∷ more) old e now
 TaskLeaves input (Convert new made prefix) file old e now = (now file ≡ old file) × ConvertLeaves made prefix file new (old file) (old new) e (now new)
+TaskLeaves input (Mend new) file old e now = StaysSynced (old file) (now file) × MendLeaves file new (old file) (old new) e (now new)
+TaskLeaves input (Merge into prefix limit) file old e now = (now file ≡ old file) × MergeLeaves limit prefix file into (old file) (old into) e (now into)
 TaskLeaves input (Turns options) file old e now = TurnsLeave options (old file) e (now file)
 TaskLeaves input (Session limit) file old e now = StaysThere (old file) (now file)
 TaskLeaves input (Generate commands seed) file old e now = GenLeaves commands seed (old file) e (now file)
@@ -99,6 +103,8 @@ MayChange (Repack limit) file name = (name ≡ file) ⊎ (name ≡ temporary_nam
 MayChange (Create form) file name = name ≡ file
 MayChange (Restore limit) file name = name ≡ file
 MayChange (Convert new made prefix) file name = (name ≡ file) ⊎ (name ≡ new)
+MayChange (Mend new) file name = (name ≡ file) ⊎ (name ≡ new)
+MayChange (Merge into prefix limit) file name = (name ≡ file) ⊎ (name ≡ into)
 MayChange (Turns options) file name = name ≡ file
 MayChange (Session limit) file name = name ≡ file
 MayChange (Generate commands seed) file name = name ≡ file

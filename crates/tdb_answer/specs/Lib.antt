@@ -3,6 +3,7 @@ pub mod Output
 pub mod Commands
 pub mod Looks
 pub mod Acts
+pub mod Damaged
 pub mod Ending
 pub mod Heard
 pub mod Playing

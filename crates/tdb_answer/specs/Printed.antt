@@ -4,7 +4,7 @@ use Rattle.tdb_disk.specs.Count.{Rose}
 use Rattle.tdb_disk.specs.History.{History}
 use Rattle.tdb_answer.specs.declared.ending.Unprinted.{Unprinted}
 use Rattle.tdb_cmdline.specs.declared.ask.Task.{Task}
-use Rattle.tdb_cmdline.specs.declared.ask.Task.TheVariants.{Create, On, Read, Rescue, Print, Repack, Restore, Backup, Verify, Convert, Turns, Session, Generate}
+use Rattle.tdb_cmdline.specs.declared.ask.Task.TheVariants.{Create, On, Read, Rescue, Print, Repack, Restore, Backup, Verify, Convert, Merge, Mend, Turns, Session, Generate}
 use Rattle.tdb_answer.specs.declared.ending.Ending.{Ending}
 use Rattle.tdb_answer.specs.declared.ending.Ending.TheVariants.{Replied}
 use Rattle.tdb_answer.specs.declared.ending.Reply.TheVariants.{Restored, Copied, Verified, Closed}
@@ -12,6 +12,7 @@ use Rattle.tdb_cmdline.specs.Ask.{Ask}
 use Rattle.tdb_answer.specs.Ending.{Prints, status_of, text_of}
 use Rattle.tdb_answer.specs.Output.{Output}
 use Rattle.tdb_answer.specs.Commands.Convert.{converted_line}
+use Rattle.tdb_answer.specs.Commands.Mend.{MendText}
 use Rattle.tdb_answer.specs.Commands.Print.{PrintText}
 use Rattle.tdb_answer.specs.Commands.Rescue.{RescueText}
 use Rattle.tdb_answer.specs.Commands.Session.{SessionText}
@@ -32,6 +33,8 @@ TaskText (Restore limit) name held e text = text ≡ []
 TaskText (Backup more suffix) name held e text = text ≡ []
 TaskText (Verify more suffix) name held e text = VerifyText suffix (name ∷ more) held e text
 TaskText (Convert new made prefix) name held e text = StandsBefore converted_line e text
+TaskText (Mend new) name held e text = MendText (held name) e text
+TaskText (Merge into prefix limit) name held e text = text ≡ []
 TaskText (Turns options) name held e text = TurnsText options (held name) e text
 TaskText (Session limit) name held e text = SessionText limit (held name) e text
 TaskText (Generate commands seed) name held e text = text ≡ []
@@ -54,6 +57,8 @@ task_tells (Restore limit) files output = output
 task_tells (Backup more suffix) files output = output
 task_tells (Verify more suffix) files output = output && files
 task_tells (Convert new made prefix) files output = output
+task_tells (Mend new) files output = output && files
+task_tells (Merge into prefix limit) files output = output
 task_tells (Turns options) files output = output && files
 task_tells (Session limit) files output = output && files
 task_tells (Generate commands seed) files output = output
@@ -68,7 +73,8 @@ pub record WritesAll (told : Bool) (o : Output) (Text : Ending → List ℕ → 
   pub sound : o.faults_after ≡ o.faults_before
   pub written : IsTrue told → (text : List ℕ) × Text e text × (o.after ≡ o.before ++ text ++ text_of e)
 
--- a restore, a backup, a verification, a conversion or a `quit` that was done, for which no line is written any more
+-- a restore, a backup, a verification, a conversion, a mending or a `quit` that was done, for which no line is written
+-- any more
 abbrev pub IsSilent : Ending → Type 0
 IsSilent e = (e ≡ Replied Restored) ⊎ (e ≡ Replied Copied) ⊎ (e ≡ Replied Verified) ⊎ (e ≡ Replied Closed)
 

@@ -2,12 +2,14 @@
 use Rattle.std.specs.Prelude.{◌≡◌, ◌⊎◌, ℕ, Bool, true, false, Option, None, Some, List, ◌∷◌}
 use Rattle.tdb_disk.specs.History.{History, seen}
 use Rattle.tdb_cmdline.specs.declared.ask.Task.{Task}
-use Rattle.tdb_cmdline.specs.declared.ask.Task.TheVariants.{Create, On, Read, Rescue, Print, Repack, Restore, Backup, Verify, Convert, Turns, Session, Generate}
+use Rattle.tdb_cmdline.specs.declared.ask.Task.TheVariants.{Create, On, Read, Rescue, Print, Repack, Restore, Backup, Verify, Convert, Merge, Mend, Turns, Session, Generate}
 use Rattle.tdb_answer.specs.declared.ending.Ending.{Ending}
 use Rattle.tdb_cmdline.specs.Ask.{Ask}
 use Rattle.tdb_answer.specs.Commands.Backup.{BackupEnds}
 use Rattle.tdb_answer.specs.Commands.Repack.{RepackEnds}
 use Rattle.tdb_answer.specs.Commands.Convert.{ConvertEnds}
+use Rattle.tdb_answer.specs.Commands.Mend.{MendEnds}
+use Rattle.tdb_answer.specs.Commands.Merge.{MergeEnds}
 use Rattle.tdb_cmdline.specs.declared.lines.create.NewFile.{NewFile}
 use Rattle.tdb_answer.specs.Commands.Restore.{ReadSo}
 use Rattle.tdb_answer.specs.Commands.Session.{ServesSo}
@@ -30,6 +32,8 @@ reads_input (Restore limit) = true
 reads_input (Backup more suffix) = false
 reads_input (Verify more suffix) = false
 reads_input (Convert new made prefix) = false
+reads_input (Mend new) = false
+reads_input (Merge into prefix limit) = false
 reads_input (Turns options) = true
 reads_input (Session limit) = true
 reads_input (Generate commands seed) = false
@@ -108,6 +112,26 @@ pub record EndsByConversion (task : Task) (name : List ℕ) (held : List ℕ →
   pub there : held name ≡ Some was
   pub ends : ConvertEnds made prefix (seen was) new (held new) e
 
+-- the task makes another file of what can be read of the one that is at its name, and ends so by what becomes of that,
+-- and by what is held at the name of the other
+pub record EndsByMending (task : Task) (name : List ℕ) (held : List ℕ → Option History) (e : Ending) : Type 0 where
+  pub new : List ℕ
+  pub was : History
+  pub mends : task ≡ Mend new
+  pub there : held name ≡ Some was
+  pub ends : MendEnds (seen was) new (held new) e
+
+-- the task stores the pairs of the file that is at its name into another one, and ends so by what is held at the name of
+-- that
+pub record EndsByMerge (task : Task) (name : List ℕ) (held : List ℕ → Option History) (e : Ending) : Type 0 where
+  pub into : List ℕ
+  pub prefix : List ℕ
+  pub limit : ℕ
+  pub was : History
+  pub merges : task ≡ Merge into prefix limit
+  pub there : held name ≡ Some was
+  pub ends : MergeEnds limit (seen was) into (held into) e
+
 -- why a task on the file of a name ends so, by what is held at all names
 abbrev pub AskEnds : Input → Task → List ℕ → (List ℕ → Option History) → ℕ → ℕ → Ending → Type 0
-AskEnds input task name held before after e = AskCause input task name (held name) before after e ⊎ EndsByFiles task name held e ⊎ EndsByCounts task name held e ⊎ EndsByCommands task (held name) e ⊎ EndsByPairs task (held name) e ⊎ EndsByConversion task name held e
+AskEnds input task name held before after e = AskCause input task name (held name) before after e ⊎ EndsByFiles task name held e ⊎ EndsByCounts task name held e ⊎ EndsByCommands task (held name) e ⊎ EndsByPairs task (held name) e ⊎ EndsByConversion task name held e ⊎ EndsByMending task name held e ⊎ EndsByMerge task name held e

@@ -1,5 +1,5 @@
 -- What a run is: what it met, what it left, what it printed and how it exits; and what is promised of it.
-use Rattle.std.specs.Prelude.{◌≡◌, ◌≢◌, ◌⊎◌, ℕ, ◌<◌, ◌≤◌, IsSome, Option, None, Some, List, [], ◌∷◌, ◌++◌, length, map, string_bytes, Contains, Bool, false, IsTrue}
+use Rattle.std.specs.Prelude.{◌≡◌, ◌≢◌, ◌⊎◌, ℕ, ◌<◌, ◌≤◌, IsSome, Option, None, Some, List, [], ◌∷◌, ◌++◌, length, map, string_bytes, Contains, Bool, false, IsTrue, Ok}
 use Rattle.std.specs.Prelude.{String}
 use Rattle.std.specs.Global.{Global}
 use Rattle.tdb_disk.specs.Count.{Rose}
@@ -9,7 +9,7 @@ use Rattle.tdb_space.specs.Opening.{Opens}
 use Rattle.tdb_cmdline.specs.declared.act.Act.{Act}
 use Rattle.tdb_cmdline.specs.declared.look.Look.{Look}
 use Rattle.tdb_cmdline.specs.declared.ask.Task.{Task}
-use Rattle.tdb_cmdline.specs.declared.ask.Task.TheVariants.{Create, On, Read, Rescue, Print, Repack, Restore, Backup, Verify, Convert, Turns, Session, Generate}
+use Rattle.tdb_cmdline.specs.declared.ask.Task.TheVariants.{Create, On, Read, Rescue, Print, Repack, Restore, Backup, Verify, Convert, Merge, Mend, Turns, Session, Generate}
 use Rattle.tdb_cmdline.specs.declared.lines.create.NewFile.{NewFile}
 use Rattle.tdb_answer.specs.declared.commands.create.Creation.TheVariants.{Made, Device}
 use Rattle.tdb_answer.specs.declared.ending.Ending.{Ending}
@@ -26,6 +26,9 @@ use Rattle.tdb_cmdline.specs.CopyNames.{IsForCopyAmong, IsForRestoreAmong, tempo
 use Rattle.tdb_answer.specs.Commands.Backup.{CopiedAll, StoppedAt, IsLeftOf, BackupEnds}
 use Rattle.tdb_answer.specs.Commands.Repack.{RepackEnds, HasRepacked}
 use Rattle.tdb_answer.specs.Commands.Convert.{ConvertEnds, WasConverted}
+use Rattle.tdb_answer.specs.Commands.Mend.{MendEnds, WasMended, StaysSynced}
+use Rattle.tdb_answer.specs.Damaged.{CanMend}
+use Rattle.tdb_answer.specs.Commands.Merge.{MergeEnds, MergeLeaves, MergedOn}
 use Rattle.tdb_open.specs.Creating.{new_length}
 use Rattle.tdb_answer.specs.Commands.Create.{LeftEmpty, CreateLeaves}
 use Rattle.tdb_answer.specs.Commands.Restore.{ReadSo}
@@ -77,8 +80,9 @@ run_by words old now before after input output status = record {
 -- Why a run ends so that is asked for this, or for nothing: it is due; or a restore was asked for, no file was at its
 -- name, and its input says so; or a backup or a verification was, and its files say so; or turns were, and their script
 -- and their file say so; or a session was, and its lines and its file say so; or generated commands were, no file was
--- at the name, and it is how they were done; or a file was to be written anew, or another one to be made of its pairs,
--- and it is what became of these; or it is asked for something and a call failed, or a log did; or memory was wanting.
+-- at the name, and it is how they were done; or a file was to be written anew, or another one to be made of its pairs
+-- or of what can be read of it, or its pairs to be stored into another one, and it is what became of these; or it is
+-- asked for something and a call failed, or a log did; or memory was wanting.
 pub data MayEnd (ask : Option Ask) (held : List ℕ → Option History) (input : Input) (before after : ℕ) : Ending → Type 0 where
   is_due : (e : Ending) → Due ask held e → MayEnd ask held input before after e
   is_read : (e : Ending) (limit : ℕ) (name : List ℕ) → ask ≡ Some (record { file = name; task = Restore limit }) → held name ≡ None → ReadSo input limit e → MayEnd ask held input before after e
@@ -89,6 +93,8 @@ pub data MayEnd (ask : Option Ask) (held : List ℕ → Option History) (input :
   is_generated : (e : Ending) (commands seed : ℕ) (name : List ℕ) → ask ≡ Some (record { file = name; task = Generate commands seed }) → held name ≡ None → GenSo commands seed e → MayEnd ask held input before after e
   is_repacked : (e : Ending) (limit : ℕ) (name : List ℕ) (h : History) → ask ≡ Some (record { file = name; task = Repack limit }) → held name ≡ Some h → RepackEnds limit (seen h) e → MayEnd ask held input before after e
   is_converted : (e : Ending) (made : NewFile) (prefix new name : List ℕ) (h : History) → ask ≡ Some (record { file = name; task = Convert new made prefix }) → held name ≡ Some h → ConvertEnds made prefix (seen h) new (held new) e → MayEnd ask held input before after e
+  is_mended : (e : Ending) (new name : List ℕ) (h : History) → ask ≡ Some (record { file = name; task = Mend new }) → held name ≡ Some h → MendEnds (seen h) new (held new) e → MayEnd ask held input before after e
+  is_merged : (e : Ending) (into prefix name : List ℕ) (limit : ℕ) (h : History) → ask ≡ Some (record { file = name; task = Merge into prefix limit }) → held name ≡ Some h → MergeEnds limit (seen h) into (held into) e → MayEnd ask held input before after e
   call_failed : (a : Ask) → ask ≡ Some a → Rose before after → MayEnd ask held input before after DeviceFault
   memory_wanting : MayEnd ask held input before after NoMemory
   log_failed : (a : Ask) → ask ≡ Some a → MayEnd ask held input before after LogFault
@@ -139,6 +145,11 @@ pub record Converts (run : Run) (made : NewFile) (prefix new name : List ℕ) (o
   pub asks : run.ask ≡ Some (record { file = name; task = Convert new made prefix })
   pub there : run.old name ≡ Some old
 
+-- the words ask to make another file of what can be read of one that is there and has this history
+pub record Mends (run : Run) (new name : List ℕ) (old : History) : Type 0 where
+  pub asks : run.ask ≡ Some (record { file = name; task = Mend new })
+  pub there : run.old name ≡ Some old
+
 -- Of an act, a look, a printing, a file that is to be written anew or one of whose pairs another is to be made status 3
 -- comes only over a file whose bytes can't be opened, in the way that the command opens it, and of a rescue only over
 -- one that has no header without a fault; and over each that is no longer than the longest and than it may be nothing
@@ -156,6 +167,8 @@ pub record RefusesExactly (run : Run) : Type 0 where
   pub repack_exact : (limit : ℕ) (name : List ℕ) (h : History) → Repacks run limit name h → (Opens (seen h) → ⊥) → length (seen h) ≤ LONGEST_FILE → length (seen h) ≤ limit → (run.status ≡ 3) ⊎ TellsFault run.status
   pub convert_only : (made : NewFile) (prefix new name : List ℕ) (h : History) → Converts run made prefix new name h → run.status ≡ 3 → OpensToRead (seen h) → ⊥
   pub convert_exact : (made : NewFile) (prefix new name : List ℕ) (h : History) → Converts run made prefix new name h → (OpensToRead (seen h) → ⊥) → length (seen h) ≤ LONGEST_FILE → length (seen h) ≤ made.limit → (run.status ≡ 3) ⊎ TellsFault run.status
+  pub mend_only : (new name : List ℕ) (h : History) → Mends run new name h → run.status ≡ 3 → CanMend (seen h) → ⊥
+  pub mend_exact : (new name : List ℕ) (h : History) → Mends run new name h → (CanMend (seen h) → ⊥) → length (seen h) ≤ LONGEST_FILE → (run.status ≡ 3) ⊎ TellsFault run.status
 
 -- a status after which every file is as before or undone, whatever the words ask for, but for copies and restored
 -- files, and for turns and sessions that ended in their midst (`EndsMidway`): it says neither that it was done, nor
@@ -168,6 +181,7 @@ KeepsAll status = (status ≢ 0) × (status ≢ 4) × (status ≢ 8) × (status 
 abbrev pub EndsMidway : Task → ℕ → Type 0
 EndsMidway (Turns options) status = status ≡ 5
 EndsMidway (Session limit) status = (status ≡ 5) ⊎ (status ≡ 7)
+EndsMidway (Merge into prefix limit) status = (status ≡ 5) ⊎ (status ≡ 6)
 EndsMidway (Create file) status = file.limit < new_length file.form
 EndsMidway task status = ⊥
 
@@ -270,6 +284,32 @@ pub record ConvertRun (made : NewFile) (prefix : List ℕ) (held old : Option Hi
   pub there : IsSome old → now ≡ old
   pub kept : status ≢ 0 → status ≢ 4 → (now ≡ old) ⊎ ((status ≡ 8) × Rose before after)
 
+-- What a run leaves at the name of a file that is to be made of what can be read of another one. What stood there
+-- stays. Where the status is neither 0 nor 4 no file is left that wasn't there, unless a call of the files failed and
+-- then the output.
+pub record MendRun (held old : Option History) (before after status : ℕ) (now : Option History) : Type 0 where
+  pub done : status ≡ 0 → WasMended held old now
+  pub there : IsSome old → now ≡ old
+  pub kept : status ≢ 0 → status ≢ 4 → (now ≡ old) ⊎ ((status ≡ 8) × Rose before after)
+
+-- The pairs of one file with this prefix were merged into another, and a stop from then on leaves only what opens to that.
+pub record WasMerged (limit : ℕ) (prefix : List ℕ) (held old now : Option History) : Type 0 where
+  pub was : History
+  pub there : held ≡ Some was
+  pub before : History
+  pub stood : old ≡ Some before
+  pub after : History
+  pub stands : now ≡ Some after
+  pub merged : MergedOn limit prefix (seen was) before after (Ok tt)
+
+-- What a run leaves at the name of a file into which the pairs of another one are to be stored, by the ending of its
+-- command, whose status it has, or 5 where there was no memory for its line, or 8 where the output failed.
+pub record MergeRun (limit : ℕ) (prefix file into : List ℕ) (held old : Option History) (status : ℕ) (now : Option History) : Type 0 where
+  pub ending : Ending
+  pub exits : (status ≡ status_of ending) ⊎ (status ≡ 5) ⊎ (status ≡ 8)
+  pub left : MergeLeaves limit prefix file into held old ending now
+  pub done : status ≡ 0 → WasMerged limit prefix held old now
+
 -- What a run leaves at the name of a file on which generated commands are to be done. Where the status is neither 0 nor
 -- 4 no file is left that wasn't there, unless the output failed, behind them or behind a failed call.
 pub record GeneratingRun (commands seed : ℕ) (output : Output) (old : Option History) (before after status : ℕ) (now : Option History) : Type 0 where
@@ -279,13 +319,14 @@ pub record GeneratingRun (commands seed : ℕ) (output : Output) (old : Option H
   pub kept : status ≢ 0 → status ≢ 4 → (now ≡ old) ⊎ ((status ≡ 8) × (Rose before after ⊎ ((s : Summary) × HasMade commands seed s old now)))
 
 -- a name is one for a copy, where a backup is asked for, or one at which a file is restored, where a verification is, or
--- the one at which a file is made, where it is to be written anew
+-- the one at which a file is made, where it is to be written anew, or that of a file that is mended, which is synced
 abbrev pub IsCopyName : Option Ask → List ℕ → Type 0
 IsCopyName ask name =
     ((more : List (List ℕ)) × (suffix : List ℕ) × (file : List ℕ)
     × (((ask ≡ Some (record { file = file; task = Backup more suffix })) × IsForCopyAmong suffix (file ∷ more) name)
     ⊎ ((ask ≡ Some (record { file = file; task = Verify more suffix })) × IsForRestoreAmong (file ∷ more) name)))
     ⊎ ((limit : ℕ) × (file : List ℕ) × (ask ≡ Some (record { file = file; task = Repack limit })) × (name ≡ temporary_name file))
+    ⊎ ((new : List ℕ) × (ask ≡ Some (record { file = name; task = Mend new })))
 
 -- What a run leaves of the files: at most those that it is asked for change, as the status says.
 pub record LeavesFiles (run : Run) (logs later : List Logged) : Type 0 where
@@ -312,6 +353,10 @@ pub record LeavesFiles (run : Run) (logs later : List Logged) : Type 0 where
       → (run.now name ≡ None) × (run.now (temporary_name name) ≡ run.old (temporary_name name))
   pub converted : (made : NewFile) (prefix new name : List ℕ) → run.ask ≡ Some (record { file = name; task = Convert new made prefix })
       → (run.now name ≡ run.old name) × ConvertRun made prefix (run.old name) (run.old new) run.faults_before run.faults_after run.status (run.now new)
+  pub mended : (new name : List ℕ) → run.ask ≡ Some (record { file = name; task = Mend new })
+      → StaysSynced (run.old name) (run.now name) × MendRun (run.old name) (run.old new) run.faults_before run.faults_after run.status (run.now new)
+  pub merged : (into prefix name : List ℕ) (limit : ℕ) → run.ask ≡ Some (record { file = name; task = Merge into prefix limit })
+      → (run.now name ≡ run.old name) × MergeRun limit prefix name into (run.old name) (run.old into) run.status (run.now into)
   pub turned : (options : Options) (name : List ℕ) (old : History) → run.ask ≡ Some (record { file = name; task = Turns options }) → run.old name ≡ Some old
       → (h : History) × (run.now name ≡ Some h) × TurnsRun options run.input run.output old run.faults_before run.faults_after run.status h logs later
   pub unturned : (options : Options) (name : List ℕ) → run.ask ≡ Some (record { file = name; task = Turns options }) → run.old name ≡ None → run.now name ≡ None

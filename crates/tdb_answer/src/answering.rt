@@ -25,6 +25,8 @@ use crate::commands::backup::back_up;
 use crate::commands::convert::convert;
 use crate::commands::create::create_file;
 use crate::commands::generate::generate_file;
+use crate::commands::mend::mend;
+use crate::commands::merge::merge_file;
 use crate::commands::print::print_on_file;
 use crate::commands::repack::repack;
 use crate::commands::rescue::rescue_on_file;
@@ -105,6 +107,20 @@ pub fn answer_ask<F: Files, S: Source, K: Sink, L: Logs>(
             output,
             logs,
         ),
+        Task::Mend { new } => mend(alloc, name, new.as_str(), files, output),
+        Task::Merge {
+            into,
+            prefix,
+            limit,
+        } => Ok(merge_file(
+            alloc,
+            name,
+            into.as_str(),
+            prefix.as_slice(),
+            *limit,
+            files,
+            logs,
+        )),
         Task::Turns(options) => turns_on_file(alloc, name, options, files, input, output, logs),
         Task::Session { limit } => session_on_file(alloc, name, *limit, files, input, output, logs),
         Task::Generate { commands, seed } => {

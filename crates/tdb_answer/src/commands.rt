@@ -10,6 +10,8 @@ pub(crate) mod erase;
 pub(crate) mod first;
 pub(crate) mod generate;
 pub(crate) mod insert;
+pub(crate) mod mend;
+pub(crate) mod merge;
 pub(crate) mod print;
 pub(crate) mod quit;
 pub(crate) mod repack;

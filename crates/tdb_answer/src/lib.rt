@@ -10,4 +10,5 @@ mod playing;
 mod scripts;
 
 pub use answering::answer_ask;
+pub use commands::mend::can_be_mended;
 pub use ending::{Ending, Reply, Status, Unprinted, print};

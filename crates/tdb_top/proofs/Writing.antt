@@ -7,7 +7,7 @@ use Rattle.std.proofs.Math.Seq.{take-append-add, take-append_seam}
 use Rattle.tdb_disk.specs.Count.{Rose, HasCause}
 use Rattle.tdb_disk.specs.History.{History}
 use Rattle.tdb_cmdline.specs.declared.ask.Task.{Task}
-use Rattle.tdb_cmdline.specs.declared.ask.Task.TheVariants.{Create, On, Read, Rescue, Print, Repack, Restore, Backup, Verify, Convert, Turns, Session, Generate}
+use Rattle.tdb_cmdline.specs.declared.ask.Task.TheVariants.{Create, On, Read, Rescue, Print, Repack, Restore, Backup, Verify, Convert, Merge, Mend, Turns, Session, Generate}
 use Rattle.tdb_answer.specs.declared.ending.Ending.{Ending}
 use Rattle.tdb_answer.specs.declared.ending.Ending.TheVariants.{Replied, Refused, Missing, There, Usage, DeviceFault, InputFault, Malformed, NoMemory, LogFault}
 use Rattle.tdb_answer.specs.declared.ending.Unprinted.{Unprinted}
@@ -24,6 +24,7 @@ use Rattle.tdb_cmdline.specs.declared.printout.Printout.{Printout}
 use Rattle.tdb_answer.specs.Commands.Print.{PrintText}
 use Rattle.tdb_answer.specs.Commands.Rescue.{RescueText}
 use Rattle.tdb_answer.specs.Commands.Convert.{converted_line}
+use Rattle.tdb_answer.specs.Commands.Mend.{MendText}
 use Rattle.tdb_answer.specs.Commands.Session.{SessionText}
 use Rattle.tdb_answer.specs.Commands.Turns.{TurnsText}
 use Rattle.tdb_commands.specs.declared.options.Options.{Options}
@@ -103,6 +104,10 @@ rescue_wanting : (held : Option History) (written : List ℕ) (t : Ending) → T
 rescue_wanting None written t takes text = text
 rescue_wanting (Some h) written t takes text = stands_wanting _ written t takes text
 
+mend_wanting : (held : Option History) (written : List ℕ) (t : Ending) → TakesMemory t → MendText held t written → MendText held NoMemory written
+mend_wanting None written t takes text = text
+mend_wanting (Some h) written t takes text = stands_wanting _ written t takes text
+
 task_wanting : (task : Task) (name : List ℕ) (held : List ℕ → Option History) (written : List ℕ) (t : Ending) → TakesMemory t → TaskText task name held t written → TaskText task name held NoMemory written
 task_wanting (On act) name held written t takes text = text
 task_wanting (Create form) name held written t takes text = text
@@ -117,6 +122,8 @@ task_wanting Rescue name held written t takes text = rescue_wanting (held name) 
 task_wanting (Print printout limit) name held written t takes text = print_wanting printout (held name) written t takes text
 task_wanting (Repack limit) name held written t takes text = text
 task_wanting (Convert new made prefix) name held written t takes text = stands_wanting converted_line written t takes text
+task_wanting (Mend new) name held written t takes text = mend_wanting (held name) written t takes text
+task_wanting (Merge into prefix limit) name held written t takes text = text
 
 text_wanting : (ask : Option Ask) (held : List ℕ → Option History) (written : List ℕ) (t : Ending) → TakesMemory t → TextBefore ask held t written → TextBefore ask held NoMemory written
 text_wanting None held written t takes text = text
@@ -144,6 +151,10 @@ rescue_nothing : (held : Option History) → RescueText held NoMemory []
 rescue_nothing None = refl
 rescue_nothing (Some h) = (0, refl)
 
+mend_nothing : (held : Option History) → MendText held NoMemory []
+mend_nothing None = refl
+mend_nothing (Some h) = (0, refl)
+
 task_nothing : (task : Task) (name : List ℕ) (held : List ℕ → Option History) → TaskText task name held NoMemory []
 task_nothing (On act) name held = refl
 task_nothing (Create form) name held = refl
@@ -158,6 +169,8 @@ task_nothing Rescue name held = rescue_nothing (held name)
 task_nothing (Print printout limit) name held = print_nothing printout (held name)
 task_nothing (Repack limit) name held = refl
 task_nothing (Convert new made prefix) name held = (0, refl)
+task_nothing (Mend new) name held = mend_nothing (held name)
+task_nothing (Merge into prefix limit) name held = refl
 
 pub nothing_before : (ask : Option Ask) (held : List ℕ → Option History) → TextBefore ask held NoMemory []
 nothing_before None held = refl
@@ -186,6 +199,8 @@ task_heard Rescue files output told = and_left output files told
 task_heard (Print printout limit) files output told = and_left output files told
 task_heard (Repack limit) files output told = told
 task_heard (Convert new made prefix) files output told = told
+task_heard (Mend new) files output told = and_left output files told
+task_heard (Merge into prefix limit) files output told = told
 task_heard (Read (Value key)) files output told = told
 task_heard (Read Dump) files output told = and_left output files told
 

@@ -3,5 +3,5 @@
 
 mod top;
 
-pub use tdb_answer::Status;
+pub use tdb_answer::{Status, can_be_mended};
 pub use top::run;

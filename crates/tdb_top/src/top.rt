@@ -84,7 +84,8 @@ fn finish<K: Sink>(alloc: Global, answered: &Result<Ending, Unprinted>, output: 
 /// |---|---|---|
 /// | 0 | the value of the key is shown | `data(N) = "TEXT"` |
 /// | 0 | the key is added, stored or deleted, all keys are taken out, or the file is made, or written anew | `ok` |
-/// | 0 | a new file is made of the pairs of another one | `ok` |
+/// | 0 | a new file is made of the pairs of another one, or they are stored into one | `ok` |
+/// | 0 | a new file is made of what can be read of one, of which `N` bytes were changed for that | `mended N` |
 /// | 0 | the file is accepted, and has `N` keys | `number N` |
 /// | 0 | all pairs are printed, or all keys | their dump text, a line for each key |
 /// | 0 | it is told what the file holds | its numbers, its chains and their records, or its free records |
@@ -140,6 +141,14 @@ fn finish<K: Sink>(alloc: Global, answered: &Result<Ending, Unprinted>, output: 
 /// The command `convert FILE NEW` opens FILE as a dump does, unless it has more bytes than NEW may have, makes NEW as
 /// `create` does, and adds the pairs as a repack does: time and memory are those of one. Where the output doesn't take
 /// the line that tells it, NEW is removed.
+///
+/// The command `mend FILE NEW` reads FILE in memory as the stock library would read it (`mend` of `tdb_mend`, whose doc
+/// tells what that costs), makes NEW as `create` does, in the form that is so read, and adds the pairs as a repack does.
+/// FILE keeps its bytes, and is synced before it is read. Where there is no memory for the line that tells it, or the
+/// output doesn't take it, NEW is removed. No log is told.
+///
+/// The command `convert --into FILE NEW` opens FILE so too and NEW as a session does, and stores the pairs into NEW in
+/// one transaction. It holds one pair, and the pages of NEW that the transaction changes, up to its commit.
 ///
 /// The command `restore FILE` makes a file as `create` does, reads the input in pieces of 64 KiB, adds each pair
 /// without looking its key up, and syncs: time is linear in the text and in the file. It holds all keys, so as to

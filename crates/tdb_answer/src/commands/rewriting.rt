@@ -53,7 +53,11 @@ fn add_chosen<D: Disk>(
 }
 
 /// Sets the sequence number of the file on a disk, whose words have this order, and syncs.
-fn set_sequence<D: Disk>(disk: &mut D, number: u32, order: Order) -> Result<(), DiskFault>
+pub(crate) fn set_sequence<D: Disk>(
+    disk: &mut D,
+    number: u32,
+    order: Order,
+) -> Result<(), DiskFault>
     requires reaches { 52 ≤ D.size disk.old }
     ensures got { OnOk result (IsTrue D.tells → GotSequence order number (D.history disk.old) (D.history disk.new)) }
     ensures cause { HasCause (D.faults disk.old) (D.faults disk.new) result }

@@ -21,7 +21,7 @@ use tdb_tool::{SessionEnd, SessionFault, run_session};
 use tdb_world::World;
 
 /// How a file is opened for a session that may make it so long.
-fn options_within(limit: u64) -> Options
+pub(crate) fn options_within(limit: u64) -> Options
     ensures { result ≡ session_options limit }
 {
     Options {

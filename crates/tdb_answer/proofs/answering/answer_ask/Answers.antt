@@ -1,5 +1,6 @@
 use Rattle.std.proofs.Common.{◌≡◌, ◌∷◌, ℕ, List, Ok, string_bytes, refl, sym, ◌∙◌, ap, subst, inl, inr}
 use Rattle.std.specs.Prelude.{IsTrue}
+use Rattle.std.proofs.lemmas.Bool.{and_parts}
 use Rattle.tdb_disk.specs.Count.{Rose}
 use Rattle.tdb_commands.specs.declared.options.Options.{Options}
 use Rattle.tdb_answer.specs.Commands.Create.{CreateCause, CreateLeaves}
@@ -11,21 +12,25 @@ use Rattle.tdb_cmdline.specs.CopyNames.{temporary_name}
 use Rattle.tdb_answer.specs.Commands.Backup.{BackupCause}
 use Rattle.tdb_answer.specs.Commands.Repack.{RepackLeaves}
 use Rattle.tdb_answer.specs.Commands.Convert.{ConvertLeaves, converted_line}
+use Rattle.tdb_answer.specs.Commands.Mend.{MendLeaves, MendText, StaysSynced}
+use Rattle.tdb_answer.specs.Commands.Merge.{MergeLeaves}
 use Rattle.tdb_cmdline.specs.declared.ask.Task.{Task}
-use Rattle.tdb_cmdline.specs.declared.ask.Task.TheVariants.{Turns, Verify, Convert}
+use Rattle.tdb_cmdline.specs.declared.ask.Task.TheVariants.{Turns, Verify, Convert, Mend}
 use Rattle.tdb_answer.specs.declared.ending.Ending.TheVariants.{Replied}
 use Rattle.tdb_answer.specs.declared.ending.Reply.TheVariants.{Played}
 use Rattle.tdb_answer.specs.Commands.Generate.{GenHeard}
 use Rattle.tdb_answer.specs.Commands.Verify.{VerifyText, VerifyCause}
 use Rattle.tdb_answer.specs.Looks.{ending_of, Began, StandsBefore}
 use Rattle.tdb_answer.specs.Printed.{TaskText, task_tells}
-use Rattle.tdb_answer.specs.Heard.{TaskHeard, VerifyHeard, ConvertHeard}
+use Rattle.tdb_answer.specs.Heard.{TaskHeard, VerifyHeard, ConvertHeard, MergeHeard}
 use Rattle.tdb_answer.specs.Stops.{StopsScripted}
 use Rattle.tdb_answer.proofs.Looking.{began_as}
 use Rattle.tdb_answer.proofs.Acting.{made_cause, made_left, backup_ends, verify_ends, gen_ends}
 use Rattle.tdb_answer.proofs.Unlogged.{made_unlogged}
 use Rattle.tdb_answer.proofs.Repacking.{repack_ends}
 use Rattle.tdb_answer.proofs.Converting.{convert_ends}
+use Rattle.tdb_answer.proofs.Mending.{mend_ends}
+use Rattle.tdb_answer.proofs.Merging.{merge_ends}
 use Rattle.tdb_answer.proofs.answering.answer_ask.Goals as goal
 
 -- why a file was made, or wasn't
@@ -175,6 +180,91 @@ returns-in-Convert-clause-began g c =
     subst (λ t. IsTrue (task_tells t g.F.D.Disk.tells g.K.Sink.tells) → Began (TaskText t name held) before now r) (sym c.in-Convert.is)
     (λ told. began_as (StandsBefore converted_line) (TaskText (Convert c.in-Convert.new c.in-Convert.made c.in-Convert.prefix) name held) before now r (λ e text is. is) (c.convert.ensures.began told))
 
+-- and so has the new file of what can be read of one
+pub mend-requires-clause-differ : goal.mend-requires-clause-differ
+mend-requires-clause-differ g c is =
+    let fits = rw c.in-Mend.is at c.requires.fits in
+    fits (sym c.as_str-in-Mend.ensures ∙ is ∙ c.as_str-name.ensures.value)
+
+-- why it was made, or wasn't
+pub returns-in-Mend-clause-cause : goal.returns-in-Mend-clause-cause
+returns-in-Mend-clause-cause g c told =
+    let held = g.F.Files.held c.args.files.now in
+    let given = g.F.Files.held c.mend.new.files in
+    let e = ending_of c.mend.result in
+    mend_ends (input_by g.S.Source.tells (g.S.Source.left c.args.input.now) (g.S.Source.faults c.args.input.now) (g.S.Source.faults c.args.input.now)) c.args.ask.now.task c.in-Mend.new (string_bytes c.args.ask.now.file) held
+    (g.F.Files.faults c.args.files.now) (g.F.Files.faults c.mend.new.files) c.in-Mend.is e (given c.in-Mend.new)
+    (subst (λ (q : List ℕ × List ℕ). MendLeaves q.0 q.1 (held q.0) (held q.1) e (given q.1)) (λ j. (c.as_str-name.ensures.value j, c.as_str-in-Mend.ensures j)) (c.mend.ensures.left told))
+    c.mend.ensures.counted
+
+-- and what is left at the names of both
+pub returns-in-Mend-clause-left : goal.returns-in-Mend-clause-left
+returns-in-Mend-clause-left g c told =
+    let held = g.F.Files.held c.args.files.now in
+    let given = g.F.Files.held c.mend.new.files in
+    let e = ending_of c.mend.result in
+    subst (λ task. TaskLeaves (input_by g.S.Source.tells (g.S.Source.left c.args.input.now) (g.S.Source.faults c.args.input.now) (g.S.Source.faults c.args.input.now)) task (string_bytes c.args.ask.now.file) held e given) (sym c.in-Mend.is) (
+      subst (λ n. StaysSynced (held n) (given n)) c.as_str-name.ensures.value (c.mend.ensures.kept told),
+      subst (λ (q : List ℕ × List ℕ). MendLeaves q.0 q.1 (held q.0) (held q.1) e (given q.1)) (λ j. (c.as_str-name.ensures.value j, c.as_str-in-Mend.ensures j)) (c.mend.ensures.left told),
+    )
+
+pub returns-in-Mend-clause-others : goal.returns-in-Mend-clause-others
+returns-in-Mend-clause-others g c =
+    let held = g.F.Files.held c.args.files.now in
+    let given = g.F.Files.held c.mend.new.files in
+    subst (λ task. SameElse task (string_bytes c.args.ask.now.file) held given) (sym c.in-Mend.is)
+    (λ other apart. c.mend.ensures.others other (λ is. apart (inl (is ∙ c.as_str-name.ensures.value))) (λ is. apart (inr (is ∙ c.as_str-in-Mend.ensures))))
+
+-- and what was printed of it
+pub returns-in-Mend-clause-began : goal.returns-in-Mend-clause-began
+returns-in-Mend-clause-began g c =
+    let held = g.F.Files.held c.args.files.now in
+    let before = g.K.Sink.written c.args.output.now in
+    let now = g.K.Sink.written c.mend.new.output in
+    let r = c.mend.result in
+    let name = string_bytes c.args.ask.now.file in
+    subst (λ t. IsTrue (task_tells t g.F.D.Disk.tells g.K.Sink.tells) → Began (TaskText t name held) before now r) (sym c.in-Mend.is)
+    (λ both.
+    (let parts = and_parts g.K.Sink.tells g.F.D.Disk.tells both in
+    began_as (MendText (held c.as_str-name.result.now)) (TaskText (Mend c.in-Mend.new) name held) before now r
+    (λ e text is. subst (λ n. MendText (held n) e text) c.as_str-name.ensures.value is)
+    (c.mend.ensures.began parts.1 parts.0)))
+
+-- the other file has another name
+pub merge_file-requires-clause-differ : goal.merge_file-requires-clause-differ
+merge_file-requires-clause-differ g c is =
+    let fits = rw c.in-Merge.is at c.requires.fits in
+    fits.0 (sym c.as_str-in-Merge.ensures ∙ is ∙ c.as_str-name.ensures.value)
+
+-- why the pairs of a file were stored into another one, or weren't
+pub returns-in-Merge-clause-cause : goal.returns-in-Merge-clause-cause
+returns-in-Merge-clause-cause g c told =
+    let held = g.F.Files.held c.args.files.now in
+    let given = g.F.Files.held c.merge_file.new.files in
+    let e = c.merge_file.result in
+    merge_ends (input_by g.S.Source.tells (g.S.Source.left c.args.input.now) (g.S.Source.faults c.args.input.now) (g.S.Source.faults c.args.input.now)) c.args.ask.now.task c.in-Merge.into c.in-Merge.prefix (string_bytes c.args.ask.now.file) c.in-Merge.limit held
+    (g.F.Files.faults c.args.files.now) (g.F.Files.faults c.merge_file.new.files) c.in-Merge.is g.F.D.Disk.tells e (given c.in-Merge.into) told
+    (subst (λ (q : List ℕ × (List ℕ × List ℕ)). MergeLeaves c.in-Merge.limit q.1.1 q.0 q.1.0 (held q.0) (held q.1.0) e (given q.1.0)) (λ j. (c.as_str-name.ensures.value j, (c.as_str-in-Merge.ensures j, c.as_slice-in-Merge.ensures j))) (c.merge_file.ensures.left told))
+    c.merge_file.ensures.counted
+
+-- and what is left at the names of both
+pub returns-in-Merge-clause-left : goal.returns-in-Merge-clause-left
+returns-in-Merge-clause-left g c told =
+    let held = g.F.Files.held c.args.files.now in
+    let given = g.F.Files.held c.merge_file.new.files in
+    let e = c.merge_file.result in
+    subst (λ task. TaskLeaves (input_by g.S.Source.tells (g.S.Source.left c.args.input.now) (g.S.Source.faults c.args.input.now) (g.S.Source.faults c.args.input.now)) task (string_bytes c.args.ask.now.file) held e given) (sym c.in-Merge.is) (
+      subst (λ n. given n ≡ held n) c.as_str-name.ensures.value (c.merge_file.ensures.kept told),
+      subst (λ (q : List ℕ × (List ℕ × List ℕ)). MergeLeaves c.in-Merge.limit q.1.1 q.0 q.1.0 (held q.0) (held q.1.0) e (given q.1.0)) (λ j. (c.as_str-name.ensures.value j, (c.as_str-in-Merge.ensures j, c.as_slice-in-Merge.ensures j))) (c.merge_file.ensures.left told),
+    )
+
+pub returns-in-Merge-clause-others : goal.returns-in-Merge-clause-others
+returns-in-Merge-clause-others g c =
+    let held = g.F.Files.held c.args.files.now in
+    let given = g.F.Files.held c.merge_file.new.files in
+    subst (λ task. SameElse task (string_bytes c.args.ask.now.file) held given) (sym c.in-Merge.is)
+    (λ other apart. c.merge_file.ensures.others other (λ is. apart (inl (is ∙ c.as_str-name.ensures.value))) (λ is. apart (inr (is ∙ c.as_str-in-Merge.ensures))))
+
 -- why generated commands ended so
 pub returns-in-Generate-clause-cause : goal.returns-in-Generate-clause-cause
 returns-in-Generate-clause-cause g c told =
@@ -185,7 +275,7 @@ returns-in-Generate-clause-cause g c told =
     gen_ends (input_by g.S.Source.tells (g.S.Source.left c.args.input.now) (g.S.Source.faults c.args.input.now) (g.S.Source.faults c.args.input.now)) c.args.ask.now.task c.in-Generate.commands c.in-Generate.seed (string_bytes c.args.ask.now.file) held before now e c.in-Generate.is
     (subst (λ n. GenCause c.in-Generate.commands c.in-Generate.seed n (held n) before now e) c.as_str-name.ensures.value (c.generate_file.ensures.cause told))
 
--- what logs heard of a file that was to be made, of the pairs on the input too, and of a rescue
+-- what logs heard of a file that was to be made, of the pairs on the input too, of a rescue and of a mending
 pub returns-in-Create-clause-told : goal.returns-in-Create-clause-told
 returns-in-Create-clause-told g c told =
     let held = g.F.Files.held c.args.files.now in
@@ -210,6 +300,14 @@ returns-in-Rescue-clause-told g c told =
     subst (λ t. TaskHeard t (string_bytes c.args.ask.now.file) held now (ending_of c.rescue_on_file.result) logs logs) (sym c.in-Rescue.is)
     (refl, c.rescue_on_file.ensures.unlogged told)
 
+pub returns-in-Mend-clause-told : goal.returns-in-Mend-clause-told
+returns-in-Mend-clause-told g c told =
+    let held = g.F.Files.held c.args.files.now in
+    let now = g.F.Files.held c.mend.new.files in
+    let logs = g.L.Logs.logs c.args.logs.now in
+    subst (λ t. TaskHeard t (string_bytes c.args.ask.now.file) held now (ending_of c.mend.result) logs logs) (sym c.in-Mend.is)
+    (refl, c.mend.ensures.unlogged)
+
 -- and of files that were verified
 pub returns-in-Verify-clause-told : goal.returns-in-Verify-clause-told
 returns-in-Verify-clause-told g c told =
@@ -231,6 +329,17 @@ returns-in-Convert-clause-told g c told =
     let later = g.L.Logs.logs c.convert.new.logs in
     subst (λ t. TaskHeard t (string_bytes c.args.ask.now.file) held now e logs later) (sym c.in-Convert.is)
     (subst (λ n. ConvertHeard c.in-Convert.made.limit (held n) e logs later) c.as_str-name.ensures.value (c.convert.ensures.heard told))
+
+-- of a file whose pairs were to be stored into another one
+pub returns-in-Merge-clause-told : goal.returns-in-Merge-clause-told
+returns-in-Merge-clause-told g c told =
+    let held = g.F.Files.held c.args.files.now in
+    let now = g.F.Files.held c.merge_file.new.files in
+    let e = c.merge_file.result in
+    let logs = g.L.Logs.logs c.args.logs.now in
+    let later = g.L.Logs.logs c.merge_file.new.logs in
+    subst (λ t. TaskHeard t (string_bytes c.args.ask.now.file) held now e logs later) (sym c.in-Merge.is)
+    (subst (λ n. MergeHeard c.in-Merge.limit (held n) e logs later) c.as_str-name.ensures.value (c.merge_file.ensures.heard told))
 
 -- and of generated commands
 pub returns-in-Generate-clause-told : goal.returns-in-Generate-clause-told
