@@ -1,45 +1,16 @@
 //! Pairs that are written as dump text, which is read back in pieces.
 
-ghost use Rattle.std.specs.Prelude.{◌≡◌, ◌≤◌, ◌++◌, length, true, take, ℕ, OnOk, OnErr};
-ghost use Rattle.tdb_disk.specs.Count.{HasCause};
-
 use std::alloc::Global;
 use std::time::Instant;
-use tdb_disk::{Sink, SinkFault};
+use tdb_disk::MemSink;
 use tdb_dump::{ReadRefusal, Reader, WriteRefusal, write_pair};
 
 /// How many bytes the reader gets at once.
 const PIECE: usize = 65_536;
 
-/// A sink that keeps what is written.
-#[derive(Drop)]
-struct Text {
-    bytes: Vec<u8>,
-    faults: u64,
-}
-
-impl Sink for Text {
-    ghost tells = { true };
-
-    ghost written = { λ t. t.bytes.items };
-
-    ghost faults = { λ t. t.faults };
-
-    fn write(&mut self, bytes: &[u8]) -> Result<(), SinkFault> {
-        if self.bytes.extend_from_slice(bytes).is_ok() {
-            return Ok(());
-        }
-        self.faults = self.faults.saturating_add(1);
-        Err(SinkFault)
-    }
-}
-
 /// The text of pairs of keys of eight bytes and values of sixteen.
-fn text_of(alloc: Global, pairs: u64) -> Result<Text, WriteRefusal> {
-    let mut text = Text {
-        bytes: Vec::new(alloc),
-        faults: 0,
-    };
+fn text_of(alloc: Global, pairs: u64) -> Result<MemSink, WriteRefusal> {
+    let mut text = MemSink::new(alloc);
     for i in 0..pairs {
         let key = i.wrapping_mul(0x9E37_79B9_7F4A_7C15).to_le_bytes();
         let value = *b"0123456789\x00\x01\x02\xFD\xFE\xFF";
@@ -66,9 +37,9 @@ pub(crate) fn measure(rt: HostRuntime, asked: Option<u32>) -> anyhow::Result<()>
     let text = text_of(rt.alloc(), asked.unwrap_or(1000) as u64)?;
     let written = start.elapsed(&rt)?;
     let start = Instant::now(&rt)?;
-    let count = count_of(rt.alloc(), text.bytes.as_slice())?;
+    let count = count_of(rt.alloc(), text.as_slice())?;
     let read = start.elapsed(&rt)?;
-    println!(rt; "{count} pairs in {} bytes", text.bytes.len())?;
+    println!(rt; "{count} pairs in {} bytes", text.as_slice().len())?;
     if asked.is_some() {
         println!(rt;
             "written in {} ms, read in {} ms",

@@ -7,13 +7,6 @@ use tdb_locks::{Kind, Len, LockRefusal, Locks};
 
 const OWNERS: u32 = 1000;
 
-/// How many locks were granted and let go, and how many were refused.
-#[derive(Drop)]
-struct Tally {
-    granted: u32,
-    refused: u32,
-}
-
 /// A table in which each owner holds a chain for writing and two records for reading.
 fn filled(alloc: Global) -> Result<Locks, LockRefusal> {
     let mut locks = Locks::new(alloc);
@@ -38,8 +31,8 @@ fn wanted(round: u32) -> u64
     }
 }
 
-/// One owner after another locks four bytes for writing and lets go of them.
-fn run(locks: &mut Locks, rounds: u32) -> Result<Tally, LockRefusal> {
+/// One owner after another locks four bytes for writing and lets go of them. It answers how many locks were refused.
+fn run(locks: &mut Locks, rounds: u32) -> Result<u32, LockRefusal> {
     let mut refused = 0;
     for round in 0..rounds {
         let owner = (round as u64 * 7919 % 1000) as u32;
@@ -50,20 +43,17 @@ fn run(locks: &mut Locks, rounds: u32) -> Result<Tally, LockRefusal> {
             Err(LockRefusal::Memory) => return Err(LockRefusal::Memory),
         }
     }
-    Ok(Tally {
-        granted: rounds - refused,
-        refused,
-    })
+    Ok(refused)
 }
 
 /// Takes and lets go of so many locks, 1,000 unless a count is asked for, and prints how many were granted and refused.
 pub(crate) fn measure(rt: HostRuntime, asked: Option<u32>) -> anyhow::Result<()> {
     let mut locks = filled(rt.alloc())?;
-    let tally = run(&mut locks, asked.unwrap_or(1000))?;
+    let rounds = asked.unwrap_or(1000);
+    let refused = run(&mut locks, rounds)?;
     println!(rt;
-        "granted {} refused {} pieces {}",
-        tally.granted,
-        tally.refused,
+        "granted {} refused {refused} pieces {}",
+        rounds.saturating_sub(refused),
         locks.piece_count()
     )?;
     Ok(())

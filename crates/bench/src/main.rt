@@ -1,4 +1,4 @@
-//! Measures what crates of tdb do: hashes, locks, dump text, commits, and commands of openers. The first argument names
+//! Measures what crates of tdb do: hashes, locks, dump text, a commit, and commands of openers. The first argument names
 //! one of these, and the second is how much is done; then the times are printed too. Without an argument each is done in
 //! short.
 #![tactic(auto)]
@@ -26,14 +26,14 @@ fn main(rt: HostRuntime) -> anyhow::Result<()> {
         Some("words") => words::measure(rt, asked),
         Some("locks") => locks::measure(rt, asked),
         Some("dump") => dump::measure(rt, asked),
-        Some("commits") => commits::measure(rt, asked),
+        Some("commits") => commits::measure(rt),
         Some("world") => world::measure(rt, asked),
         Some(_) => bail!("the first argument is words, locks, dump, commits or world"),
         None => {
             words::measure(rt, None)?;
             locks::measure(rt, None)?;
             dump::measure(rt, None)?;
-            commits::measure(rt, None)?;
+            commits::measure(rt)?;
             world::measure(rt, None)
         }
     }
