@@ -6,7 +6,7 @@ use tdb_terminal::{Answer, answer_to, write_page};
 use tdb_top::Status;
 
 /// The version of the program, and the toolchain with which it is proved.
-const VERSION: &str = "tdb 0.1, proved with rattle-kit-13b";
+const VERSION: &str = "tdb 0.1, proved with rattle-kit-13f";
 
 /// The status of words that ask for nothing.
 const USAGE: Status = Status(2);
@@ -22,6 +22,8 @@ const PAGE: &str = "tdb: look into, change, check and copy files of Samba's triv
   tdb backup FILE ..         copy files; -s SUFFIX names the copies, in the place of .bak
   tdb backup -v FILE ..      verify files, and put copies in the place of damaged ones
   tdb convert FILE NEW       make a file of the pairs of another, as with other chains; man tdb-convert
+  tdb convert --into ..      store the pairs of a file into one that is there
+  tdb mend FILE [NEW]        make a file of what can be read of a damaged one; man tdb-mend
   tdb turns FILE             let several openers of a file take turns, by a script on standard input
   tdb gen N SEED FILE        make a file by N commands that follow from SEED
   tdb help, tdb --version    print this page, or the version
@@ -41,8 +43,8 @@ tdb tool FILE repack            the file is written anew, without the space that
 const ALONE: [&str; 5] = ["create", "info", "list", "free", "repack"];
 
 /// The names of the commands.
-const COMMANDS: [&str; 8] = [
-    "tool", "dump", "restore", "backup", "convert", "turns", "gen", "help",
+const COMMANDS: [&str; 9] = [
+    "tool", "dump", "restore", "backup", "convert", "mend", "turns", "gen", "help",
 ];
 
 /// What a person asks for.

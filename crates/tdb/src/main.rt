@@ -2,23 +2,30 @@
 //! Where a call of the system failed, it says on standard error why.
 #![tactic(auto)]
 
+ghost use Rattle.std.specs.Prelude.{◌≡◌, ℕ, List, false};
+ghost use Rattle.tdb_files.specs.DirFiles.{name_is_taken};
+
 use crate::finding_logs::FindingLogs;
 use crate::help::tell_asked;
+use crate::in_place::{InPlace, keeping};
 use crate::manner::manner_of;
+use crate::way_out::tell_way_out;
 use std::alloc::AllocError;
 use std::env::VarError;
 use std::io::IsTerminal;
 use std::process::ExitCode;
 use std::{env, io};
 use tdb_disk::Sink;
-use tdb_files::{DirFiles, FileSink, Finding, InSource, OutSink, Progress, Silence};
+use tdb_files::{DirFiles, FileSink, Finding, InSource, Manner, OutSink, Progress, Silence};
 use tdb_log::{CountLog, Log, Logs, SinkLog};
 use tdb_terminal::TerminalSource;
 use tdb_top::{Status, run};
 
 mod finding_logs;
 mod help;
+mod in_place;
 mod manner;
+mod way_out;
 
 /// The variable of the environment that names the file of the log, if there is to be one. An empty one names none.
 const LOG_VARIABLE: &str = "TDB_LOG";
@@ -27,6 +34,12 @@ const LOG_VARIABLE: &str = "TDB_LOG";
 fn words_of(rt: &HostRuntime) -> io::Result<Vec<String>> {
     Ok(env::args(rt)?.skip(1).collect(rt.alloc())?)
 }
+
+/// The status of what was done.
+const DONE: Status = Status(0);
+
+/// The status of a name that a file has already.
+const THERE: Status = Status(9);
 
 /// Prints this line, and gives the status that goes with it, or that of an output that failed.
 fn end_with<K: Sink>(output: &mut K, line: &str, status: Status) -> Status {
@@ -40,6 +53,13 @@ fn end_with<K: Sink>(output: &mut K, line: &str, status: Status) -> Status {
 fn tell_memory(rt: &HostRuntime) -> Status {
     let mut output = OutSink::new(io::writer(rt));
     end_with(&mut output, "memory\n", Status::NO_MEMORY)
+}
+
+/// Says that a file has this name already, which is to be free.
+fn tell_there(rt: &HostRuntime, name: &str) -> Result<Status, AllocError> {
+    let line = format!(in rt.alloc(); "there {name}\n")?;
+    let mut output = OutSink::new(io::writer(rt));
+    Ok(end_with(&mut output, line.as_str(), THERE))
 }
 
 /// Says that there can't be a log.
@@ -84,7 +104,7 @@ enum Shown {
 /// terminal nothing is, whose lines it would stand among.
 fn shown_of(rt: &HostRuntime, words: &[String]) -> Option<Shown> {
     match words.first()?.as_str() {
-        "backup" | "convert" => Some(Shown::Files),
+        "backup" | "convert" | "mend" => Some(Shown::Files),
         "tool" if words.last()?.as_str() == "repack" => Some(Shown::Files),
         "restore" => Some(Shown::Input),
         "dump" if !rt.stdout().is_terminal() => Some(Shown::Output),
@@ -108,10 +128,59 @@ fn check_named(rt: &HostRuntime, status: Status, files: &DirFiles) -> Status {
     end_with(&mut output, "device fault\n", Status::DEVICE_FAULT)
 }
 
+/// Puts the file that was made of one that is to be mended in the place of that, where it was made and has a name: the
+/// status then, or where that can't be done that of a failed device, which is printed, and on standard error why.
+fn put_mended(rt: &HostRuntime, status: Status, mended: &InPlace, files: &mut DirFiles) -> Status
+    requires { (name : List ℕ) → name_is_taken files.old name ≡ false }
+    ensures free { (name : List ℕ) → name_is_taken files.new name ≡ false }
+{
+    if status != DONE || mended.put(files) {
+        return status;
+    }
+    if let Some(fault) = files.last_fault() {
+        let _ = eprintln!(rt; "tdb: {fault}");
+    }
+    let mut output = OutSink::new(io::writer(rt));
+    end_with(&mut output, "device fault\n", Status::DEVICE_FAULT)
+}
+
+/// How files are dealt with that are looked at behind a run: none is waited for, and nobody is warned of another
+/// program again.
+fn quiet(manner: Manner) -> Manner {
+    Manner {
+        seconds: 0,
+        warns: false,
+        ..manner
+    }
+}
+
+/// Ends a run over these files that ended so: a new file takes the place of the one that is to be mended, and a person is
+/// told what can be done with one that was refused.
+fn finish(
+    rt: &HostRuntime,
+    status: Status,
+    manner: Manner,
+    mended: Option<&InPlace>,
+    files: DirFiles,
+) -> Status
+    requires { (name : List ℕ) → name_is_taken files name ≡ false }
+{
+    let named = check_named(rt, status, &files);
+    let mut files = files.with_manner(keeping(manner));
+    let ended = match mended {
+        Some(mended) => put_mended(rt, named, mended, &mut files),
+        None => named,
+    };
+    let mut files = files.with_manner(quiet(manner));
+    tell_way_out(rt, ended, &mut files);
+    ended
+}
+
 /// Runs the words over the files of the system, and tells these logs, and the files for which fault one was refused.
 fn run_logged<L: Logs + Drop>(
     rt: HostRuntime,
     words: &[String],
+    mended: Option<&InPlace>,
     logs: L,
 ) -> Result<Status, AllocError> {
     let alloc = rt.alloc();
@@ -120,8 +189,9 @@ fn run_logged<L: Logs + Drop>(
     let shown = shown_of(&rt, words);
     let progress = shown.and_then(|_| Progress::on_terminal(rt));
     let when = |what| progress.filter(|_| shown == Some(what));
+    let manner = manner_of(&rt, words);
     let mut files = DirFiles::new(rt)
-        .with_manner(manner_of(&rt, words))
+        .with_manner(manner)
         .with_silence(silence.share()?)
         .with_finding(finding.share()?)
         .with_progress(when(Shown::Files));
@@ -144,11 +214,17 @@ fn run_logged<L: Logs + Drop>(
         tell_reason(&rt, status, &files, input.source(), &output);
         tell_asked(&rt, status, words);
     }
-    Ok(check_named(&rt, status, &files))
+    let files = files.with_progress(None);
+    Ok(finish(&rt, status, manner, mended, files))
 }
 
-/// The logs of a run: one that counts, and over it, where the environment names a file, one that writes to that.
-fn run_words(rt: HostRuntime, words: &[String]) -> Result<Status, AllocError> {
+/// Runs the words, those of a mending in its place as those of one to another name, and tells the logs of the run: one
+/// that counts, and over it, where the environment names a file, one that writes to that.
+fn run_words(
+    rt: HostRuntime,
+    words: &[String],
+    mended: Option<&InPlace>,
+) -> Result<Status, AllocError> {
     let mut logs: Vec<Box<dyn Log>> = Vec::new(rt.alloc());
     logs.push(Box::new(rt.alloc(), CountLog::new())?)?;
     match env::var(&rt, LOG_VARIABLE) {
@@ -167,7 +243,22 @@ fn run_words(rt: HostRuntime, words: &[String]) -> Result<Status, AllocError> {
             return Ok(tell_log_fault(&rt));
         }
     }
-    run_logged(rt, words, logs)
+    run_logged(rt, words, mended, logs)
+}
+
+/// Runs these words. A file that is to be mended in its place is mended to another name first, unless the one is taken
+/// under which it is to stay.
+fn run_asked(rt: HostRuntime, words: &[String]) -> Result<Status, AllocError> {
+    let Some(mended) = InPlace::of(rt.alloc(), words)? else {
+        return run_words(rt, words, None);
+    };
+    match mended.taken_name(&rt) {
+        Some(name) => tell_there(&rt, name),
+        None => {
+            mended.clear(rt);
+            run_words(rt, mended.words(), Some(&mended))
+        }
+    }
 }
 
 /// Runs the words of the command line over the files of the system.
@@ -175,7 +266,7 @@ fn run_line(rt: HostRuntime) -> Result<Status, AllocError> {
     match words_of(&rt) {
         Err(error) if error.kind() == io::ErrorKind::OutOfMemory => Err(AllocError),
         // A word that is no text makes no command line, and neither do no words.
-        answer => run_words(rt, answer.unwrap_or(Vec::new(rt.alloc())).as_slice()),
+        answer => run_asked(rt, answer.unwrap_or(Vec::new(rt.alloc())).as_slice()),
     }
 }
 

@@ -1,7 +1,7 @@
 //! What the environment and the words of a command line say of how files are dealt with beside other programs.
 
 use std::env;
-use tdb_files::Manner;
+use tdb_files::{Kept, Manner};
 
 /// The variable of the environment that lets files be changed that another program has open, where it is `1`.
 const SHARED_VARIABLE: &str = "TDB_SHARED";
@@ -48,7 +48,11 @@ pub(crate) fn manner_of(rt: &HostRuntime, words: &[String]) -> Manner {
         seconds,
         is_shared,
         reads_first: reads_first(words),
-        keeps_replaced: verifies(words),
+        replaced: if verifies(words) {
+            Kept::AsRefused
+        } else {
+            Kept::Nowhere
+        },
         warns: true,
     }
 }

@@ -161,6 +161,15 @@ impl DirFiles {
         self.unnamed.as_ref()
     }
 
+    /// The name of the file that was refused last for a fault that was found (`Finding`), unless one of its name was
+    /// replaced since.
+    pub fn last_refused(&self) -> Option<&str> {
+        match &self.left {
+            Some(left) if matches!(left.cause, Cause::Fault(_, _)) => Some(left.name.as_str()),
+            _ => None,
+        }
+    }
+
     /// What is known of a file of this name, if it is to be made.
     fn prepare(&mut self, name: &str) -> Making
         ensures rest { self.new ≡ record self.old { named = self.new.named; removed = self.new.removed } }
@@ -236,6 +245,11 @@ impl DirFiles {
         }
     }
 
+    /// A file that was refused for a fault stays noted, also behind one that wasn't.
+    fn keeps_fault(&self, next: Cause) -> bool {
+        self.last_refused().is_some() && !matches!(next, Cause::Fault(_, _))
+    }
+
     /// Notes how a file was found that is given back, or as this run left it, and why it was refused, unless a copy was
     /// made of it.
     fn note_left(&mut self, disk: &FileDisk, name: Option<String>)
@@ -246,6 +260,7 @@ impl DirFiles {
             None => Cause::Unknown,
         };
         if self.named.is_none()
+            && !self.keeps_fault(cause)
             && let Some(name) = name
             && let Some(stamp) = disk.stamp()
         {

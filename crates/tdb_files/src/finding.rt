@@ -6,7 +6,7 @@ use std::fmt;
 use std::rc::Rc;
 use tdb_words::What;
 
-/// Why a file that is replaced was refused.
+/// Why a file that is replaced, or was given back, was refused.
 #[derive(Clone, Copy)]
 pub(crate) enum Cause {
     /// For this fault, at this offset in bytes.

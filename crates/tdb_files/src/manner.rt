@@ -1,5 +1,16 @@
 //! How the files of the system are dealt with beside other programs.
 
+/// What becomes of a file that is replaced.
+#[derive(Clone, Copy, Debug, PartialEq, Eq)]
+pub enum Kept {
+    /// It goes.
+    Nowhere,
+    /// It was refused, and stays under its name and `.refused`, or `.refused.1` and so on.
+    AsRefused,
+    /// It stays under its name and `.before`, which no other file may have.
+    AsBefore,
+}
+
 /// How the files of the system are dealt with beside other programs.
 #[derive(Clone, Copy, Debug, PartialEq, Eq)]
 pub struct Manner {
@@ -9,8 +20,8 @@ pub struct Manner {
     pub is_shared: bool,
     /// An existing file is locked for reading first, and for changes once it is changed.
     pub reads_first: bool,
-    /// A file that is replaced stays, under its name and `.refused`.
-    pub keeps_replaced: bool,
+    /// What becomes of a file that is replaced.
+    pub replaced: Kept,
     /// A person is warned on standard error of a file that another program has open.
     pub warns: bool,
 }
@@ -26,7 +37,7 @@ impl Manner {
             seconds: SECONDS,
             is_shared: false,
             reads_first: false,
-            keeps_replaced: false,
+            replaced: Kept::Nowhere,
             warns: false,
         }
     }

@@ -4,10 +4,11 @@ use crate::finding::Cause;
 use crate::folder::sync_folder;
 use crate::holder::Holder;
 use crate::identity::Identity;
-use crate::manner::Manner;
+use crate::manner::{Kept, Manner};
 use crate::others::{find_other, find_part_locker};
 use crate::part::{has_no_links, is_free, is_same};
 use crate::reason::Reason;
+use std::alloc::{AllocError, Global};
 use std::fs::{self, Metadata, Permissions};
 use std::os::unix::fs::{MetadataExt, PermissionsExt, chown};
 use std::time::Duration;
@@ -68,7 +69,7 @@ fn find_changer(rt: &HostRuntime, file: Identity) -> Option<Holder> {
 }
 
 /// The file may be replaced: no other program has it open, as far as that can be seen, or it is to be shared. For one
-/// that is to be kept, as it was refused, it takes 0.2 seconds.
+/// that is to be kept, as it was damaged, it takes 0.2 seconds.
 pub(crate) fn check_replaced(
     rt: &HostRuntime,
     from: &str,
@@ -82,15 +83,19 @@ pub(crate) fn check_replaced(
         return Ok(());
     }
     let file = Identity::of(&replaced);
-    let holder = if manner.keeps_replaced {
-        find_changer(rt, file)
-    } else {
-        find_other(rt, file)
+    let holder = match manner.replaced {
+        Kept::Nowhere => find_other(rt, file),
+        Kept::AsRefused | Kept::AsBefore => find_changer(rt, file),
     };
     match holder {
         Some(holder) => Err(Reason::Elsewhere(holder)),
         None => Ok(()),
     }
+}
+
+/// The name under which a file stays that a mended one replaces: its own and `.before`.
+pub fn before_name(alloc: Global, name: &str) -> Result<String, AllocError> {
+    format!(in alloc; "{name}.before")
 }
 
 /// The name under which a refused file is kept, the one with this number.
@@ -117,9 +122,15 @@ fn keep_as(rt: &HostRuntime, name: &str, kept: &str) -> io::Result<()> {
     }
 }
 
-/// Keeps a file that is replaced under the first free one of its names for that, and says so on standard error, and why
-/// it was refused.
-fn keep_replaced(rt: &HostRuntime, name: &str, cause: Cause) -> io::Result<()> {
+/// Keeps a file that is replaced under its name and `.before`.
+fn keep_before(rt: &HostRuntime, name: &str) -> io::Result<()> {
+    let kept = before_name(rt.alloc(), name)?;
+    keep_as(rt, name, &kept)
+}
+
+/// Keeps a refused file that is replaced under the first free one of its names for that, and says so on standard error,
+/// and why it was refused.
+fn keep_refused(rt: &HostRuntime, name: &str, cause: Cause) -> io::Result<()> {
     for number in 0..MOST_REFUSED {
         let kept = refused_name(rt, name, number)?;
         match keep_as(rt, name, &kept) {
@@ -135,8 +146,8 @@ fn keep_replaced(rt: &HostRuntime, name: &str, cause: Cause) -> io::Result<()> {
 }
 
 /// Gives the file at `from` the name `to`. A regular file that is replaced passes its permissions, its group and its
-/// owner on, as far as the system allows it, and one that is to be kept, which was refused for this cause, stays under
-/// another name. Where `to` is a link, that is replaced or kept, and the file to which it leads stays as it is. The
+/// owner on, as far as the system allows it, and one that is to be kept, which may have been refused for this cause,
+/// stays under another name. Where `to` is a link, that is replaced or kept, and the file to which it leads stays as it is. The
 /// folder of the new name is synced then, so that the name is on the medium; a folder that may not be opened, or whose
 /// file system can't sync it, is left to the system. Where nothing is at `from`, nothing is done.
 pub(crate) fn replace(
@@ -150,8 +161,10 @@ pub(crate) fn replace(
         return Ok(());
     }
     if let Some(replaced) = find_replaced(rt, from, to) {
-        if manner.keeps_replaced {
-            keep_replaced(rt, to, cause)?;
+        match manner.replaced {
+            Kept::Nowhere => {}
+            Kept::AsRefused => keep_refused(rt, to, cause)?,
+            Kept::AsBefore => keep_before(rt, to)?,
         }
         copy_access(rt, from, Access::of(&replaced));
     }
