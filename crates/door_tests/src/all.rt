@@ -2,14 +2,14 @@
 
 use crate::tables::first_failure;
 use crate::{
-    backup, changes, create, generate, inserts, limits, lines, logs, long, options, printing,
-    rescues, rewrites, sessions, summaries, turns, undo, verify,
+    backup, changes, create, generate, inserts, limits, lines, logs, long, mends, merges, options,
+    printing, rescues, rewrites, sessions, summaries, turns, undo, verify,
 };
 
+// In parts: a list of all tables is more than the prover computes in one step.
 #[test]
-fn lines_of_tables(rt: HostRuntime) {
+fn lines_that_change_a_file(rt: HostRuntime) {
     for (file, tables) in [
-        ("backup", backup::TABLES.as_slice()),
         ("changes", changes::TABLES.as_slice()),
         ("create", create::TABLES.as_slice()),
         ("generate", generate::TABLES.as_slice()),
@@ -18,13 +18,34 @@ fn lines_of_tables(rt: HostRuntime) {
         ("lines", lines::TABLES.as_slice()),
         ("options", options::TABLES.as_slice()),
         ("printing", printing::TABLES.as_slice()),
+        ("sessions", sessions::TABLES.as_slice()),
+        ("turns", turns::TABLES.as_slice()),
+    ] {
+        assert_eq!(rt; first_failure(rt.alloc(), tables), Ok(None), "{file}");
+    }
+}
+
+#[test]
+fn lines_that_copy_and_look(rt: HostRuntime) {
+    for (file, tables) in [
+        ("backup", backup::TABLES.as_slice()),
+        ("merges", merges::TABLES.as_slice()),
         ("rescues", rescues::TABLES.as_slice()),
         ("rewrites", rewrites::TABLES.as_slice()),
-        ("sessions", sessions::TABLES.as_slice()),
         ("summaries", summaries::TABLES.as_slice()),
-        ("turns", turns::TABLES.as_slice()),
         ("undo", undo::TABLES.as_slice()),
         ("verify", verify::TABLES.as_slice()),
+    ] {
+        assert_eq!(rt; first_failure(rt.alloc(), tables), Ok(None), "{file}");
+    }
+}
+
+#[test]
+fn lines_that_mend(rt: HostRuntime) {
+    for (file, tables) in [
+        ("sound and left", mends::TABLES.as_slice()),
+        ("behind mutexes", mends::BEHIND_MUTEXES.as_slice()),
+        ("refused", mends::REFUSED.as_slice()),
     ] {
         assert_eq!(rt; first_failure(rt.alloc(), tables), Ok(None), "{file}");
     }
@@ -41,6 +62,7 @@ fn runs_beside_the_tables(rt: HostRuntime) {
             "loads with logs",
             logs::failing_row(alloc, &generate::LOGGED),
         ),
+        ("looks at damaged files", mends::failing_look(alloc)),
         ("summaries", summaries::failing_growth(alloc)),
         ("calls that fail in a commit", turns::failing_call(alloc)),
     ] {

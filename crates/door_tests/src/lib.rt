@@ -24,6 +24,10 @@ mod logs;
 #[cfg(test)]
 mod long;
 #[cfg(test)]
+mod mends;
+#[cfg(test)]
+mod merges;
+#[cfg(test)]
 mod options;
 #[cfg(test)]
 mod printing;

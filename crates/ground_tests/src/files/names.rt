@@ -4,7 +4,7 @@ use crate::edits::{removes, renames};
 use crate::files::folder::{self, FOLDER, Left, has_all, lay, mode_of, set_mode};
 use crate::rows::Row;
 use std::{fs, io};
-use tdb_files::{DirFiles, Manner};
+use tdb_files::{DirFiles, Kept, Manner};
 
 const FROM: &str = "tdb_files_test/from";
 
@@ -27,7 +27,7 @@ pub(crate) struct Rename {
     folder: u32,
     from: &'static [Laid],
     to: Option<File>,
-    keeps: bool,
+    replaced: Kept,
     left: File,
     kept: &'static [Left],
 }
@@ -37,12 +37,12 @@ const FREE: Rename = Rename {
     folder: 0o700,
     from: &[(Some((b"one", 0o600)), false)],
     to: None,
-    keeps: false,
+    replaced: Kept::Nowhere,
     left: (b"one", 0o600),
     kept: &[],
 };
 
-pub(crate) static RENAMES: [(&'static str, Rename); 5] = [
+pub(crate) static RENAMES: [(&'static str, Rename); 6] = [
     ("to a name that is free", FREE),
     // As in memory.
     (
@@ -78,12 +78,23 @@ pub(crate) static RENAMES: [(&'static str, Rename); 5] = [
                 (Some((b"two", 0o600)), true),
                 (Some((b"three", 0o600)), false),
             ],
-            keeps: true,
+            replaced: Kept::AsRefused,
             left: (b"three", 0o600),
             kept: &[
                 (KEPT, Some(b"one")),
                 ("tdb_files_test/to.refused.1", Some(b"two")),
             ],
+            ..FREE
+        },
+    ),
+    (
+        "to a file that stays as it was before",
+        Rename {
+            from: &[(Some((b"two", 0o600)), false)],
+            to: Some((b"one", 0o640)),
+            replaced: Kept::AsBefore,
+            left: (b"two", 0o640),
+            kept: &[("tdb_files_test/to.before", Some(b"one"))],
             ..FREE
         },
     ),
@@ -110,7 +121,7 @@ impl Row for Rename {
                 fs::hard_link(&rt, TO, KEPT).ok()?;
             }
             let mut files = DirFiles::new(rt).with_manner(Manner {
-                keeps_replaced: self.keeps,
+                replaced: self.replaced,
                 ..Manner::new()
             });
             is_so = is_so && renames(&mut files, FROM, TO);
