@@ -19,7 +19,7 @@ _tdb() {
   if [ "$COMP_CWORD" -eq 1 ]; then
     case $word in
       -*) _tdb_words "$word" "--help --version" ;;
-      *) _tdb_words "$word" "tool dump restore backup convert turns gen help" ;;
+      *) _tdb_words "$word" "tool dump restore backup convert mend turns gen help" ;;
     esac
     return
   fi
@@ -28,9 +28,9 @@ _tdb() {
     tool | restore) options="--limit" valued="--limit" ;;
     dump) options="-e -k" valued="-k" ;;
     backup) options="-s -v" valued="-s" ;;
-    convert) options="--limit --prefix" valued="--limit --prefix" ;;
+    convert) options="--into --limit --prefix" valued="--limit --prefix" ;;
     turns) options="--limit --no-nesting --read-only --seqnum" valued="--limit" ;;
-    gen) ;;
+    mend | gen) ;;
     *) return ;;
   esac
 
@@ -63,7 +63,7 @@ _tdb() {
     return
   fi
   case $command:${#positions[@]} in
-    backup:* | dump:0 | restore:0 | convert:[01] | turns:0 | tool:0 | gen:2) _tdb_names "$word" ;;
+    backup:* | dump:0 | restore:0 | convert:[01] | mend:[01] | turns:0 | tool:0 | gen:2) _tdb_names "$word" ;;
     convert:3) _tdb_words "$word" "default jenkins" ;;
     convert:4) _tdb_words "$word" "little big" ;;
     tool:1)

@@ -238,7 +238,7 @@ def check_texts(tally, crates):
 
 def pieces_of(text):
     """The parts of a text between what is filled in, without punctuation at the ends."""
-    parts = (part.strip(" :;?") for part in re.split(r"\{[^}]*\}|\\n", text))
+    parts = (part.strip(" :;?'") for part in re.split(r"\{[^}]*\}|\\n", text))
     return [part for part in parts if re.search("[A-Za-z]", part)]
 
 
