@@ -9,7 +9,7 @@ use crate::finding_logs::FindingLogs;
 use crate::help::tell_asked;
 use crate::in_place::{InPlace, keeping};
 use crate::manner::manner_of;
-use crate::way_out::tell_way_out;
+use crate::way_out::{tell_kept, tell_way_out};
 use std::alloc::AllocError;
 use std::env::VarError;
 use std::io::IsTerminal;
@@ -172,6 +172,8 @@ fn finish(
         None => named,
     };
     let mut files = files.with_manner(quiet(manner));
+    let kept = files.take_kept();
+    tell_kept(rt, kept.as_slice(), &mut files);
     tell_way_out(rt, ended, &mut files);
     ended
 }

@@ -59,3 +59,16 @@ pub(crate) fn tell_way_out(rt: &HostRuntime, status: Status, files: &mut DirFile
         _ => {}
     }
 }
+
+/// Says on standard error of each refused file that was replaced, and stays under one of these names, that it can be
+/// mended, where it can. What can't be said there is left out.
+pub(crate) fn tell_kept(rt: &HostRuntime, kept: &[String], files: &mut DirFiles)
+    requires { (name : List ℕ) → name_is_taken files.old name ≡ false }
+    ensures free { (name : List ℕ) → name_is_taken files.new name ≡ false }
+{
+    for name in kept {
+        if can_be_mended(rt.alloc(), name.as_str(), files) == Some(true) {
+            let _ = eprintln!(rt; "tdb: {name}: 'tdb mend {name} NEW' can read it");
+        }
+    }
+}

@@ -18,7 +18,7 @@ use crate::silence::Silence;
 use crate::stamp::Stamp;
 use std::alloc::{AllocError, Global};
 use std::collections::HashSet;
-use std::fs;
+use std::{fs, mem};
 use tdb_cache::{Cached, WriteBehind};
 use tdb_disk::{Files, FilesFault, Take, TakeRefusal};
 
@@ -55,6 +55,9 @@ pub struct DirFiles {
 
     /// For which fault a file was refused.
     finding: Option<Finding>,
+
+    /// The names under which refused files stay that were replaced.
+    kept: Vec<String>,
 
     /// Where a person is told what is read and written.
     progress: Option<Progress>,
@@ -105,6 +108,7 @@ impl DirFiles {
             removed: None,
             silence: None,
             finding: None,
+            kept: Vec::new(rt.alloc()),
             progress: None,
         }
     }
@@ -269,11 +273,28 @@ impl DirFiles {
     }
 
     /// Gives one file the name of another, where both may.
-    fn replace(&self, from: &str, to: &str) -> Result<(), Reason> {
+    fn replace(&self, from: &str, to: &str) -> Result<Option<String>, Reason> {
         self.check_moved(from)?;
         check_replaced(&self.rt, from, to, self.manner)?;
         let cause = self.check_left(to)?;
         replace(&self.rt, from, to, self.manner, cause)
+    }
+
+    /// Notes the name under which a refused file stays, where one was replaced and there is memory for it.
+    fn note_kept(&mut self, answer: Result<Option<String>, Reason>) -> Result<(), Reason>
+        ensures { self.new ≡ record self.old { kept = self.new.kept } }
+    {
+        if let Some(name) = answer? {
+            let _ = self.kept.push(name);
+        }
+        Ok(())
+    }
+
+    /// The names under which refused files stay that were replaced, in the order in which they were. They are told once.
+    pub fn take_kept(&mut self) -> Vec<String>
+        ensures { self.new ≡ record self.old { kept = self.new.kept } }
+    {
+        mem::replace(&mut self.kept, Vec::new(self.rt.alloc()))
     }
 
     /// Gives a new file its name, where it is whole, and else removes it. Of another file it notes how it is.
@@ -409,6 +430,7 @@ impl Files for DirFiles {
         let answer = self.replace(from, to);
         self.named = None;
         self.left = None;
+        let answer = self.note_kept(answer);
         self.count(to, answer)
     }
 

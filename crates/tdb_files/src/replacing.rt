@@ -129,8 +129,8 @@ fn keep_before(rt: &HostRuntime, name: &str) -> io::Result<()> {
 }
 
 /// Keeps a refused file that is replaced under the first free one of its names for that, and says so on standard error,
-/// and why it was refused.
-fn keep_refused(rt: &HostRuntime, name: &str, cause: Cause) -> io::Result<()> {
+/// and why it was refused. The name that it got.
+fn keep_refused(rt: &HostRuntime, name: &str, cause: Cause) -> io::Result<String> {
     for number in 0..MOST_REFUSED {
         let kept = refused_name(rt, name, number)?;
         match keep_as(rt, name, &kept) {
@@ -138,7 +138,7 @@ fn keep_refused(rt: &HostRuntime, name: &str, cause: Cause) -> io::Result<()> {
             Err(error) => return Err(error),
             Ok(()) => {
                 let _ = eprintln!(rt; "tdb: {name}: {cause}, and is kept as {kept}");
-                return Ok(());
+                return Ok(kept);
             }
         }
     }
@@ -149,28 +149,30 @@ fn keep_refused(rt: &HostRuntime, name: &str, cause: Cause) -> io::Result<()> {
 /// owner on, as far as the system allows it, and one that is to be kept, which may have been refused for this cause,
 /// stays under another name. Where `to` is a link, that is replaced or kept, and the file to which it leads stays as it is. The
 /// folder of the new name is synced then, so that the name is on the medium; a folder that may not be opened, or whose
-/// file system can't sync it, is left to the system. Where nothing is at `from`, nothing is done.
+/// file system can't sync it, is left to the system. Where nothing is at `from`, nothing is done. The name under which a
+/// refused file stays, where one was replaced.
 pub(crate) fn replace(
     rt: &HostRuntime,
     from: &str,
     to: &str,
     manner: Manner,
     cause: Cause,
-) -> Result<(), Reason> {
+) -> Result<Option<String>, Reason> {
     if is_free(rt, from)? {
-        return Ok(());
+        return Ok(None);
     }
+    let mut kept = None;
     if let Some(replaced) = find_replaced(rt, from, to) {
         match manner.replaced {
             Kept::Nowhere => {}
-            Kept::AsRefused => keep_refused(rt, to, cause)?,
+            Kept::AsRefused => kept = Some(keep_refused(rt, to, cause)?),
             Kept::AsBefore => keep_before(rt, to)?,
         }
         copy_access(rt, from, Access::of(&replaced));
     }
     fs::rename(rt, from, to)?;
     sync_folder(rt, to)?;
-    Ok(())
+    Ok(kept)
 }
 
 /// Gives a file the permissions, the group and the owner of another, as far as the system allows it: only root may give
