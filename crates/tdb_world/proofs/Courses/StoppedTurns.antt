@@ -27,7 +27,7 @@ use Rattle.tdb_world.specs.Courses.Led.{Moment, IsStateAt, Led}
 use Rattle.tdb_world.specs.Courses.Stops.{Leads, OpensOnTheWay, StopsLed}
 use Rattle.tdb_world.specs.Courses.Turns.{IsToldOf, Never}
 use Rattle.tdb_world.proofs.Courses.OneTurn.{turn_after}
-use Rattle.tdb_world.proofs.Courses.Stopping.{leads_one, opens_first, passes_here, same_added}
+use Rattle.tdb_world.proofs.Courses.Stopping.{leads_one, opens_first, passes_here, safe_opens, same_added}
 
 -- What a stop may leave while a gate is undone, and that the file is safe afterwards.
 abbrev pub UndoStops : Bool → Whole → History → History → Type 0
@@ -42,6 +42,19 @@ TurnStops tells f w o h g = IsTrue tells → (state : State) → IsStateOf w h s
 
 abbrev pub TurnKeeps : Bool → Form → Whole → ℕ → History → History → Type 0
 TurnKeeps tells f w o h g = IsTrue tells → (state : State) → IsStateOf w h state → IsSafe f h → (IsChanging f state o → ⊥) → IsSafe f g
+
+-- as many calls as change nothing before a turn and behind it
+pub same_stops : (tells : Bool) (f : Form) (w : Whole) (o : ℕ) (h k g z : History) → k ≡ h → z ≡ g → TurnStops tells f w o k g → TurnStops tells f w o h z
+same_stops tells f w o h k g z front behind S = subst (λ u. TurnStops tells f w o u z) front (subst (TurnStops tells f w o k) (sym behind) S)
+
+pub same_keeps : (tells : Bool) (f : Form) (w : Whole) (o : ℕ) (h k g z : History) → k ≡ h → z ≡ g → TurnKeeps tells f w o k g → TurnKeeps tells f w o h z
+same_keeps tells f w o h k g z front behind S = subst (λ u. TurnKeeps tells f w o u z) front (subst (TurnKeeps tells f w o k) (sym behind) S)
+
+-- where no turn was taken
+pub no_turn_stops : (tells : Bool) (w : Whole) (o : ℕ) (h z : History) → z ≡ h → TurnStops tells (form_at w) w o h z
+no_turn_stops tells w o h z same told state is safe never =
+    let f = form_at w in
+    subst (λ u. LeavesOnly h u (TurnMayLeave f state o)) (sym same) (leaves_weaker h h (OpensToState f state) (TurnMayLeave f state o) (λ c O. inl O) (safe_opens w h state is safe))
 
 -- Two states have the same file with its number, and of each opener the same command and the same own.
 record Alike (m s : State) : Type 0 where
@@ -100,14 +113,14 @@ module _ (f : Form) (m s : State) (L : Alike m s) (o : ℕ) where
   }
 
 -- where the undo failed
-pub undo_stops : (tells : Bool) (old new : Moment) (o : ℕ) (e : RunFault) → Led {V = ℕ} tells old new (Err e) (λ state _. Clears (form_at old.world) state) Never Nothing
+pub undo_stops : {U : Type 0} (tells : Bool) (old new : Moment) (o : ℕ) (e : RunFault) → Led {V = U} tells old new (Err e) (λ state _. Clears (form_at old.world) state) Never Nothing
     → UndoStops tells old.world old.history new.history → StopsLed {V = Bool} tells old new (Err e)
 undo_stops tells old new o Memory A stops told state added is eq safe calm = absurd (A.told told state is).2
 undo_stops tells old new o Io A stops told state added is eq safe calm =
     record { stops = opens_first (form_at old.world) old.history new.history state o (law_lines added) (stops told state is safe); left = tt }
 
 -- where it didn't, or there was none
-module _ (tells : Bool) (old mid new : Moment) (o : ℕ) (c : LawCommand) (mine : (state : State) → IsStateAt old state → IsToldOf state o c) (from : ℕ)
+module _ {U : Type 0} (tells : Bool) (old mid new : Moment) (o : ℕ) (c : LawCommand) (mine : (state : State) → IsStateAt old state → IsToldOf state o c) (from : U)
     (A : Led tells old mid (Ok from) (λ state _. Clears (form_at old.world) state) Never Nothing) where
   turn_left : (r : Result Bool RunFault)
       → Led tells mid new r (λ state more lines z. IsToldOf state o c → TakesOne (form_at mid.world) state o more lines z) Never

@@ -15,6 +15,7 @@ use Rattle.tdb_openers.specs.declared.standings.OpenerStanding.{OpenerStanding}
 use Rattle.tdb_openers.specs.declared.standings.OpenerStanding.TheVariants as Stands
 use Rattle.tdb_world.specs.Courses.Hearing.{HeardLed}
 use Rattle.tdb_world.specs.Courses.Led.{Moment}
+use Rattle.tdb_world.specs.Courses.Stops.{StopsLed}
 use Rattle.tdb_world.specs.Courses.Told.{PlayLed}
 use Rattle.tdb_world.specs.declared.course.unreported.MeasuredTurn.{MeasuredTurn}
 
@@ -37,6 +38,7 @@ TurnTells who (Some turn) lines =
 pub record Unreported (tells : Bool) (old new : Moment) (before after : List Logged) (who : ℕ) (answer : Result (Result (Option Turn) LogRefusal) RunFault) : Type 0 where
   pub lines : List Line
   pub led : PlayLed tells old (with_lines new lines) answer (TakeTurn (law_opener who))
+  pub stops : StopsLed tells old (with_lines new lines) answer
   pub heard : HeardLed tells old (with_lines new lines) before after answer
   pub told : IfOk answer (λ heard. IfOk heard (λ turn. TurnTells who turn lines))
 

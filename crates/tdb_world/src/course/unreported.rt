@@ -1,14 +1,18 @@
 //! A turn, and a gift, of which no report tells.
-ghost use Rattle.std.specs.Prelude.{◌≡◌, ◌≤◌, ◌++◌, [], ℕ, List, OnOk, OnErr, IfErr, false};
+ghost use Rattle.std.specs.Prelude.{◌≡◌, ◌≤◌, ◌++◌, [], ℕ, List, IsTrue, OnOk, OnErr, IfErr, false};
 ghost use Rattle.tdb_disk.specs.History.{seen};
+ghost use Rattle.tdb_disk.specs.Stop.{LeavesOnly};
 ghost use Rattle.tdb_law.specs.Plays.{Clears, Play as LawPlay};
+ghost use Rattle.tdb_law.specs.World.{State};
 ghost use Rattle.tdb_commands.specs.InLaw.{law_opener, law_command};
 ghost use Rattle.tdb_commands.specs.declared.command.Command.{Command};
 ghost use Rattle.tdb_commands.specs.declared.line.Line.{Line};
 ghost use Rattle.tdb_commands.specs.Short.{IsShortCommand};
 ghost use Rattle.tdb_openers.specs.Played.{growth, is_step, Nothing, TakesLast, TakesOne};
 ghost use Rattle.tdb_world.specs.Whole.{form_at, WorldFits};
+ghost use Rattle.tdb_world.specs.States.{IsStateOf};
 ghost use Rattle.tdb_world.specs.Steps.{HasCommand};
+ghost use Rattle.tdb_world.specs.Stops.{IsChanging, IsSafe, OpensToState, TurnMayLeave};
 ghost use Rattle.tdb_world.specs.Courses.Hearing.{HeardBy};
 ghost use Rattle.tdb_world.specs.Courses.Led.{moment, Led};
 ghost use Rattle.tdb_world.specs.Courses.Told.{PlayLedInAny};
@@ -41,6 +45,9 @@ fn undo_gate<D: Disk>(world: &mut AllOpeners, d: &mut D) -> Result<Option<Undone
         (λ state _. Clears (form_at world.old) state)
         Never
         Nothing }
+    ensures stops { IsTrue D.tells → (state : State) → let f = form_at world.old in IsStateOf world.old (D.history d.old) state → IsSafe f (D.history d.old)
+        → LeavesOnly (D.history d.old) (D.history d.new) (OpensToState f state) }
+    ensures safe { OnOk result (IsTrue D.tells → (state : State) → let f = form_at world.old in IsStateOf world.old (D.history d.old) state → IsSafe f (D.history d.old) → IsSafe f (D.history d.new)) }
     ensures fresh { OnOk result (world.new.stale ≡ false) }
     ensures busy { OnOk result ((who : ℕ) → HasCommand world.old who → HasCommand world.new who) }
     ensures fault { IfErr result (λ fault. fault ≡ RunFault.Io) }
@@ -67,6 +74,10 @@ fn measured_turn<D: Disk>(
         (λ state measured lines new. IsToldOf state (law_opener who) (law_command command) → TakesOne (form_at world.old) state (law_opener who) (is_step measured.turn) lines new)
         Never
         (λ state lines new. IsToldOf state (law_opener who) (law_command command) → TakesLast (form_at world.old) state (law_opener who) lines new) }
+    ensures stops { IsTrue D.tells → (state : State) → let f = form_at world.old in IsStateOf world.old (D.history d.old) state → IsSafe f (D.history d.old) → (IsChanging f state (law_opener who) → ⊥)
+        → LeavesOnly (D.history d.old) (D.history d.new) (TurnMayLeave f state (law_opener who)) }
+    ensures safe { OnOk result (IsTrue D.tells → (state : State) → let f = form_at world.old in IsStateOf world.old (D.history d.old) state → IsSafe f (D.history d.old)
+        → (IsChanging f state (law_opener who) → ⊥) → IsSafe f (D.history d.new)) }
     ensures fault { IfErr result (λ fault. fault ≡ RunFault.Io) }
 {
     let from = length_of(d)?;

@@ -12,7 +12,7 @@ returns-in_err-undone-clause-led g c =
     let q = err_from_is_err_and c.from_residual.result c.from_residual.ensures.1 in
     let old = moment c.args.world.now (g.D.Disk.history c.args.d.now) (g.D.Disk.size c.args.d.now) (g.D.Disk.faults c.args.d.now) [] in
     let new = moment c.undo_gate.new.world (g.D.Disk.history c.undo_gate.new.d) (g.D.Disk.size c.undo_gate.new.d) (g.D.Disk.faults c.undo_gate.new.d) [] in
-    rw (q.1, q.2) (undo_unreported g.D.Disk.tells old new c.args.who (g.L.Logs.logs c.args.logs.now) c.in_err-undone.field-0.0 refl c.in_err-undone.ensures.led)
+    rw (q.1, q.2) (undo_unreported g.D.Disk.tells old new c.args.who (g.L.Logs.logs c.args.logs.now) c.in_err-undone.field-0.0 refl c.in_err-undone.ensures.led c.undo_gate.ensures.stops)
 
 pub measured_turn-requires-clause-busy : goal.measured_turn-requires-clause-busy
 measured_turn-requires-clause-busy g c = c.in_ok-undone.ensures.busy c.args.who c.requires.busy
@@ -27,7 +27,7 @@ returns-in_err-turn-clause-led g c =
     let new = moment c.measured_turn.new.world (g.D.Disk.history c.measured_turn.new.d) (g.D.Disk.size c.measured_turn.new.d) (g.D.Disk.faults c.measured_turn.new.d) [] in
     let T = told_command w _ _ c.requires.fits c.args.who c.requires.busy in
     rw (q.1, q.2)
-    (turn_failed g.D.Disk.tells old mid new c.args.who T.0 (T.1 h) refl c.in_ok-undone.undone c.in_ok-undone.ensures.led (g.L.Logs.logs c.args.logs.now) (g.L.Logs.logs c.note_undone-told.new.logs)
+    (turn_failed g.D.Disk.tells old mid new c.args.who T.0 (T.1 h) refl c.in_ok-undone.undone c.in_ok-undone.ensures.led c.undo_gate.ensures.stops c.in_ok-undone.ensures.safe c.measured_turn.ensures.stops (g.L.Logs.logs c.args.logs.now) (g.L.Logs.logs c.note_undone-told.new.logs)
     c.note_undone-told.result c.note_undone-told.ensures.heard c.in_err-turn.field-0.0 (c.in_err-turn.ensures.led T.0 (undo_lines (Ok c.in_ok-undone.undone))))
 
 pub returns-in-Err-clause-led : goal.returns-in-Err-clause-led
@@ -38,8 +38,8 @@ returns-in-Err-clause-led g c =
     let mid = moment c.undo_gate.new.world (g.D.Disk.history c.undo_gate.new.d) (g.D.Disk.size c.undo_gate.new.d) (g.D.Disk.faults c.undo_gate.new.d) [] in
     let new = moment c.measured_turn.new.world (g.D.Disk.history c.measured_turn.new.d) (g.D.Disk.size c.measured_turn.new.d) (g.D.Disk.faults c.measured_turn.new.d) [] in
     let T = told_command w _ _ c.requires.fits c.args.who c.requires.busy in
-    undo_refused g.D.Disk.tells old mid new c.args.who T.0 (T.1 h) refl c.in_ok-undone.undone c.in_ok-undone.ensures.led (g.L.Logs.logs c.args.logs.now) (g.L.Logs.logs c.note_undone-told.new.logs)
-    c.in-Err.refusal c.in-Err.ensures.heard c.in_ok-turn.field-0 (c.in_ok-turn.ensures.led T.0 (undo_lines (Ok c.in_ok-undone.undone)))
+    undo_refused g.D.Disk.tells old mid new c.args.who T.0 (T.1 h) refl c.in_ok-undone.undone c.in_ok-undone.ensures.led c.undo_gate.ensures.stops c.in_ok-undone.ensures.safe c.measured_turn.ensures.stops (g.L.Logs.logs c.args.logs.now) (g.L.Logs.logs c.note_undone-told.new.logs)
+    c.in-Err.refusal c.in-Err.ensures.heard c.in_ok-turn.field-0 (c.in_ok-turn.ensures.led T.0 (undo_lines (Ok c.in_ok-undone.undone))) c.in_ok-turn.ensures.safe
 
 pub returns-in-Ok-clause-led : goal.returns-in-Ok-clause-led
 returns-in-Ok-clause-led g c =
@@ -49,8 +49,8 @@ returns-in-Ok-clause-led g c =
     let mid = moment c.undo_gate.new.world (g.D.Disk.history c.undo_gate.new.d) (g.D.Disk.size c.undo_gate.new.d) (g.D.Disk.faults c.undo_gate.new.d) [] in
     let new = moment c.measured_turn.new.world (g.D.Disk.history c.measured_turn.new.d) (g.D.Disk.size c.measured_turn.new.d) (g.D.Disk.faults c.measured_turn.new.d) [] in
     let T = told_command w _ _ c.requires.fits c.args.who c.requires.busy in
-    turn_heard g.D.Disk.tells old mid new c.args.who T.0 (T.1 h) refl c.in_ok-undone.undone c.in_ok-undone.ensures.led (g.L.Logs.logs c.args.logs.now) (g.L.Logs.logs c.note_undone-told.new.logs)
-    c.in_default.ensures.heard c.in_ok-turn.field-0 (c.in_ok-turn.ensures.led T.0 (undo_lines (Ok c.in_ok-undone.undone))) (g.L.Logs.logs c.note_growth.new.logs) c.in-Ok.ensures.heard
+    turn_heard g.D.Disk.tells old mid new c.args.who T.0 (T.1 h) refl c.in_ok-undone.undone c.in_ok-undone.ensures.led c.undo_gate.ensures.stops c.in_ok-undone.ensures.safe c.measured_turn.ensures.stops (g.L.Logs.logs c.args.logs.now) (g.L.Logs.logs c.note_undone-told.new.logs)
+    c.in_default.ensures.heard c.in_ok-turn.field-0 (c.in_ok-turn.ensures.led T.0 (undo_lines (Ok c.in_ok-undone.undone))) c.in_ok-turn.ensures.safe (g.L.Logs.logs c.note_growth.new.logs) c.in-Ok.ensures.heard
 
 pub returns-in-Err-note_growth-clause-led : goal.returns-in-Err-note_growth-clause-led
 returns-in-Err-note_growth-clause-led g c =
@@ -60,5 +60,5 @@ returns-in-Err-note_growth-clause-led g c =
     let mid = moment c.undo_gate.new.world (g.D.Disk.history c.undo_gate.new.d) (g.D.Disk.size c.undo_gate.new.d) (g.D.Disk.faults c.undo_gate.new.d) [] in
     let new = moment c.measured_turn.new.world (g.D.Disk.history c.measured_turn.new.d) (g.D.Disk.size c.measured_turn.new.d) (g.D.Disk.faults c.measured_turn.new.d) [] in
     let T = told_command w _ _ c.requires.fits c.args.who c.requires.busy in
-    growth_refused g.D.Disk.tells old mid new c.args.who T.0 (T.1 h) refl c.in_ok-undone.undone c.in_ok-undone.ensures.led (g.L.Logs.logs c.args.logs.now) (g.L.Logs.logs c.note_undone-told.new.logs)
-    c.in_default.ensures.heard c.in_ok-turn.field-0 (c.in_ok-turn.ensures.led T.0 (undo_lines (Ok c.in_ok-undone.undone))) (g.L.Logs.logs c.note_growth.new.logs) c.in-Err-note_growth.refusal c.in-Err-note_growth.ensures.heard
+    growth_refused g.D.Disk.tells old mid new c.args.who T.0 (T.1 h) refl c.in_ok-undone.undone c.in_ok-undone.ensures.led c.undo_gate.ensures.stops c.in_ok-undone.ensures.safe c.measured_turn.ensures.stops (g.L.Logs.logs c.args.logs.now) (g.L.Logs.logs c.note_undone-told.new.logs)
+    c.in_default.ensures.heard c.in_ok-turn.field-0 (c.in_ok-turn.ensures.led T.0 (undo_lines (Ok c.in_ok-undone.undone))) c.in_ok-turn.ensures.safe (g.L.Logs.logs c.note_growth.new.logs) c.in-Err-note_growth.refusal c.in-Err-note_growth.ensures.heard

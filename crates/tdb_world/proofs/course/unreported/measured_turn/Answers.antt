@@ -14,6 +14,7 @@ use Rattle.tdb_world.specs.Courses.Turns.{IsToldOf, Never}
 use Rattle.tdb_world.specs.declared.course.unreported.MeasuredTurn.{MeasuredTurn}
 use Rattle.tdb_world.proofs.Courses.Leading.{led_whole, same_moment}
 use Rattle.tdb_world.proofs.Courses.OneTurn.{failed_led, took_led}
+use Rattle.tdb_world.proofs.Courses.StoppedTurns.{no_turn_stops, same_keeps, same_stops}
 use Rattle.tdb_world.proofs.course.unreported.measured_turn.Goals as goal
 
 pub returns-in_err-from-clause-led : goal.returns-in_err-from-clause-led
@@ -87,3 +88,26 @@ returns-clause-led g c command front =
     (took_led g.D.Disk.tells w v h z from before c.args.who command turn front all (λ told. subst (λ u. TurnLeads w v h u c.args.who (law_turn turn)) (sym c.length_of-2.ensures.history) (c.in_ok-turn.ensures.turned told))
     to now _ _ c.in_ok-turn.ensures.header c.in_ok-turn.ensures.options (omega (arith, longer, kept)) (c.in_ok-to.ensures.cause.done ∙ c.in_ok-turn.ensures.done)
     (subst (λ u. WorldFits v (seen u) to) (sym c.length_of-2.ensures.history) (subst (WorldFits v (seen (g.D.Disk.history c.turn.new.d))) (sym kept) c.in_ok-turn.ensures.fits)) lines) (λ state lines z is T. T))
+
+pub returns-in_err-from-clause-stops : goal.returns-in_err-from-clause-stops
+returns-in_err-from-clause-stops g c = no_turn_stops g.D.Disk.tells c.args.world.now (law_opener c.args.who) (g.D.Disk.history c.args.d.now) (g.D.Disk.history c.length_of.new.d) c.length_of.ensures.history
+
+pub returns-in_err-turn-clause-stops : goal.returns-in_err-turn-clause-stops
+returns-in_err-turn-clause-stops g c =
+    same_stops g.D.Disk.tells (form_at c.args.world.now) c.args.world.now (law_opener c.args.who) (g.D.Disk.history c.args.d.now) (g.D.Disk.history c.length_of.new.d) (g.D.Disk.history c.turn.new.d) (g.D.Disk.history c.turn.new.d)
+    c.length_of.ensures.history refl c.turn.ensures.stops
+
+pub returns-in_err-to-clause-stops : goal.returns-in_err-to-clause-stops
+returns-in_err-to-clause-stops g c =
+    same_stops g.D.Disk.tells (form_at c.args.world.now) c.args.world.now (law_opener c.args.who) (g.D.Disk.history c.args.d.now) (g.D.Disk.history c.length_of.new.d) (g.D.Disk.history c.turn.new.d) (g.D.Disk.history c.length_of-2.new.d)
+    c.length_of.ensures.history c.length_of-2.ensures.history c.turn.ensures.stops
+
+pub returns-clause-stops : goal.returns-clause-stops
+returns-clause-stops g c =
+    same_stops g.D.Disk.tells (form_at c.args.world.now) c.args.world.now (law_opener c.args.who) (g.D.Disk.history c.args.d.now) (g.D.Disk.history c.length_of.new.d) (g.D.Disk.history c.turn.new.d) (g.D.Disk.history c.length_of-2.new.d)
+    c.length_of.ensures.history c.length_of-2.ensures.history c.turn.ensures.stops
+
+pub returns-clause-safe : goal.returns-clause-safe
+returns-clause-safe g c =
+    same_keeps g.D.Disk.tells (form_at c.args.world.now) c.args.world.now (law_opener c.args.who) (g.D.Disk.history c.args.d.now) (g.D.Disk.history c.length_of.new.d) (g.D.Disk.history c.turn.new.d) (g.D.Disk.history c.length_of-2.new.d)
+    c.length_of.ensures.history c.length_of-2.ensures.history c.in_ok-turn.ensures.safe

@@ -7,6 +7,7 @@ use Rattle.tdb_world.specs.Courses.Led.{moment}
 use Rattle.tdb_world.specs.Courses.Unreported.{undo_lines}
 use Rattle.tdb_world.proofs.Courses.Leading.{led_none}
 use Rattle.tdb_world.proofs.Courses.OneTurn.{cleared_busy, failed_led, stale_in, undone_led}
+use Rattle.tdb_world.proofs.Courses.Stopping.{safe_opens}
 use Rattle.tdb_world.proofs.course.unreported.undo_gate.Goals as goal
 
 pub returns-then-not-is_stale-clause-led : goal.returns-then-not-is_stale-clause-led
@@ -31,3 +32,18 @@ returns-clause-led g c =
 
 pub returns-clause-busy : goal.returns-clause-busy
 returns-clause-busy g c who busy = subst (λ w. HasCommand w who) (sym c.in_ok-undone.ensures.world) (cleared_busy c.args.world.now who busy)
+
+pub returns-then-not-is_stale-clause-stops : goal.returns-then-not-is_stale-clause-stops
+returns-then-not-is_stale-clause-stops g c told state is safe = safe_opens c.args.world.now (g.D.Disk.history c.args.d.now) state is safe
+
+pub returns-then-not-is_stale-clause-safe : goal.returns-then-not-is_stale-clause-safe
+returns-then-not-is_stale-clause-safe g c told state is safe = safe
+
+pub returns-in_err-undone-clause-stops : goal.returns-in_err-undone-clause-stops
+returns-in_err-undone-clause-stops g c = c.undo_stale.ensures.stops
+
+pub returns-clause-stops : goal.returns-clause-stops
+returns-clause-stops g c = c.undo_stale.ensures.stops
+
+pub returns-clause-safe : goal.returns-clause-safe
+returns-clause-safe g c told state is safe = c.in_ok-undone.ensures.safe told state is
