@@ -36,5 +36,6 @@ pub mod DeathsAside
 pub mod Deaths
 pub mod Mortal
 pub mod Courses
+pub mod Ended
 pub mod Loaded
 pub mod OverFiles

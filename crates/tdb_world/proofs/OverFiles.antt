@@ -27,6 +27,7 @@ use Rattle.tdb_world.specs.Syncs.{SyncsByStage}
 use Rattle.tdb_world.specs.OverFile.{OnlyInMemory, OverFile}
 use Rattle.tdb_world.specs.OverFiles.Openers.{CannotJoin, HasJoined, IsAbsent, IsLive, StandsSo, WasGiven}
 use Rattle.tdb_world.specs.OverFiles.Turns.{CountsFaults, TookTurn, WasUndone}
+use Rattle.tdb_world.proofs.Ended.{IsIdleAfter}
 
 -- a call of the openers alone leaves the disk
 pub only_memory : (old : OverFile) (w : Whole) → w.openers.header ≡ old.world.openers.header → w.openers.options ≡ old.world.openers.options → OnlyInMemory old (record old { world = w })
@@ -78,20 +79,22 @@ pub took_turn : {E : Type 0} (tells : Bool) (old new : OverFile) (who : ℕ) (r 
     → IsSafe (form_at old.world) new.history)
     → IfOk r (λ turn. SyncsByStage old.world who turn old.syncs new.syncs)
     → IfOk r (λ turn. turn ≡ Step → HasCommand new.world who)
+    → IfOk r (λ turn. IsTrue tells → IsIdleAfter old.world new.world old.history who turn)
     → OnOk r (new.world.stale ≡ false) → OnOk r (old.size ≤ new.size)
     → OnOk r (new.world.openers.header ≡ old.world.openers.header) → OnOk r (new.world.openers.options ≡ old.world.openers.options)
     → IfOk r (λ turn. TookTurn tells old new who turn)
-took_turn tells old new who (Ok turn) leads prepared safe syncs busy fresh longer header options = record {
+took_turn tells old new who (Ok turn) leads prepared safe syncs busy idle fresh longer header options = record {
   leads = leads;
   prepared = prepared;
   safe = λ told state S. safe told state S.has S.safe S.calm;
   syncs = syncs;
   busy = busy;
+  idle = idle;
   fresh = fresh;
   longer = longer;
   form = record { header = header; options = options };
 }
-took_turn tells old new who (Err e) leads prepared safe syncs busy fresh longer header options = tt
+took_turn tells old new who (Err e) leads prepared safe syncs busy idle fresh longer header options = tt
 
 -- and so does its count of faults
 pub counts_faults : {V E : Type 0} (tells : Bool) (old new : OverFile) (r : Result V E)

@@ -1,18 +1,22 @@
 -- A turn, and the undo of a gate that a dead opener left open.
-use Rattle.std.specs.Prelude.{ℕ, ◌≡◌, ◌≤◌, ◌+◌, Bool, IsTrue, Result, OnOk, OnErr, false, if◌then◌else◌}
+use Rattle.std.specs.Prelude.{ℕ, ◌≡◌, ◌≢◌, ◌≤◌, ◌+◌, Bool, IsTrue, Some, Result, OnOk, OnErr, false, if◌then◌else◌}
 use Rattle.tdb_disk.specs.Count.{Rose, RoseBy}
 use Rattle.tdb_disk.specs.History.{seen}
 use Rattle.tdb_disk.specs.Stop.{LeavesOnly}
+use Rattle.tdb_law.specs.Commands.Command.{OnWalk}
+use Rattle.tdb_law.specs.Commands.WalkCommand.{Close}
+use Rattle.tdb_law.specs.Openers.{Task}
 use Rattle.tdb_law.specs.World.{State}
 use Rattle.tdb_space.specs.Opening.{entries, is_open}
 use Rattle.tdb_undo.specs.Entries.{lengths}
 use Rattle.tdb_undo.specs.Recovery.{recovery_syncs}
+use Rattle.tdb_locks.specs.declared.turn.Reply.{Reply}
 use Rattle.tdb_locks.specs.declared.turn.Turn.{Turn}
-use Rattle.tdb_locks.specs.declared.turn.Turn.TheVariants.{Step}
+use Rattle.tdb_locks.specs.declared.turn.Turn.TheVariants.{Done, Step}
 use Rattle.tdb_commands.specs.InLaw.{law_opener, law_turn}
 use Rattle.tdb_world.specs.declared.undoing.Undone.{Undone}
 use Rattle.tdb_world.specs.Whole.{form_at}
-use Rattle.tdb_world.specs.Steps.{HasCommand, TurnLeads, UndoLeads}
+use Rattle.tdb_world.specs.Steps.{HasCommand, HasNoCommand, TurnLeads, UndoLeads}
 use Rattle.tdb_world.specs.Stops.{IsChanging, IsSafe, OpensToState, TurnMayLeave}
 use Rattle.tdb_world.specs.Prepared.{GoesAsPrepared}
 use Rattle.tdb_world.specs.Syncs.{OnlyLooks, SyncsByStage}
@@ -28,6 +32,10 @@ pub record IsSafeFor (w : OverFile) (who : ℕ) (state : State) : Type 0 where
   pub safe : IsSafeNow w
   pub calm : IsChanging (form_at w.world) state (law_opener who) → ⊥
 
+-- The command of an opener isn't a Close, which the opener doesn't outlive.
+abbrev pub OutlivesCommand : State → ℕ → Type 0
+OutlivesCommand state o = (task : Task) → state.task o ≡ Some task → task.command ≢ OnWalk Close
+
 -- An opener took a turn of its command.
 pub record TookTurn (tells : Bool) (old new : OverFile) (who : ℕ) (turn : Turn) : Type 0 where
   pub leads : IsTrue tells → TurnLeads old.world new.world old.history new.history who (law_turn turn)
@@ -35,6 +43,7 @@ pub record TookTurn (tells : Bool) (old new : OverFile) (who : ℕ) (turn : Turn
   pub safe : IsTrue tells → (state : State) → IsSafeFor old who state → IsSafe (form_at old.world) new.history
   pub syncs : SyncsByStage old.world who turn old.syncs new.syncs
   pub busy : turn ≡ Step → HasCommand new.world who
+  pub idle : IsTrue tells → (state : State) (reply : Reply) → HasState old state → OutlivesCommand state (law_opener who) → turn ≡ Done reply → HasNoCommand new.world who
   pub fresh : new.world.stale ≡ false
   pub longer : old.size ≤ new.size
   pub form : KeepsForm old new

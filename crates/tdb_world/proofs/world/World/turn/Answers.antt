@@ -1,7 +1,8 @@
 -- A turn of one of the openers over the world's disk.
-use Rattle.std.proofs.Common.{sym, subst}
+use Rattle.std.proofs.Common.{sym, subst, ap, ◌∙◌}
 use Rattle.tdb_world.specs.Steps.{HasCommand}
 use Rattle.tdb_world.specs.OverFile.{OverFile}
+use Rattle.tdb_world.proofs.Ended.{idle_so}
 use Rattle.tdb_world.proofs.OverFiles.{took_turn, counts_faults}
 use Rattle.tdb_world.proofs.world.World.turn.Goals as goal
 
@@ -11,7 +12,10 @@ turn-turned-requires-clause-busy g c = subst (λ (w : OverFile). HasCommand w.wo
 pub returns-clause-turned : goal.returns-clause-turned
 returns-clause-turned g c =
     let e = c.turn-turned.ensures in
-    rw (← c.self.view_is) (took_turn _ _ _ _ _ e.turned e.prepared e.safe e.syncs e.busy e.fresh e.longer e.header e.options)
+    let spent = ap (λ (w : OverFile). w.spent) c.self.view_is ∙ c.requires.unspent in
+    let busy = subst (λ (w : OverFile). HasCommand w.world c.args.who) (sym c.self.view_is) c.requires.busy in
+    let idle = idle_so g.D.Disk.tells _ _ _ _ _ _ _ _ c.args.who c.requires.named (c.self.invariant spent) busy c.turn-turned.result e.fits e.turned in
+    rw (← c.self.view_is) (took_turn _ _ _ _ _ e.turned e.prepared e.safe e.syncs e.busy idle e.fresh e.longer e.header e.options)
 
 pub returns-clause-stops : goal.returns-clause-stops
 returns-clause-stops g c = rw (← c.self.view_is) (λ told state S. c.turn-turned.ensures.stops told state S.has S.safe S.calm)
