@@ -35,9 +35,9 @@ only_memory old w header options = record { file = refl; form = record { header 
 
 -- an opener joined, or why none did, by each refusal
 pub has_joined : (old new : OverFile) (r : Result ℕ JoinRefusal) → IfOk r (λ who. who ≡ length old.world.openers.openers + 1)
-    → IfOk r (λ who. (h : History) → JoinLeads old.world new.world h who) → OnlyInMemory old new → IfOk r (λ who. HasJoined old new who)
-has_joined old new (Ok who) number leads memory = record { number = number; leads = leads; memory = memory }
-has_joined old new (Err e) number leads memory = tt
+    → IfOk r (λ who. (h : History) → JoinLeads old.world new.world h who) → new.world.stale ≡ old.world.stale → OnlyInMemory old new → IfOk r (λ who. HasJoined old new who)
+has_joined old new (Ok who) number leads stale memory = record { number = number; leads = leads; stale = stale; memory = memory }
+has_joined old new (Err e) number leads stale memory = tt
 
 pub cannot_join : (w : OverFile) (was : Whole) (r : Result ℕ JoinRefusal) → was ≡ w.world
     → IfErr r (λ e. (owner : ℕ) → e ≡ Refusal.Blocked owner → (length was.openers.openers < 1000) × ((h : History) (state : State) → IsStateOf was h state → 1 ≤ state.table (law_opener owner) 0))
@@ -67,9 +67,9 @@ not_idle w who s (inr busy) stands = inl (subst (StandsSo w who) busy stands)
 
 -- a command was given
 pub was_given : {E : Type 0} (old new : OverFile) (who : ℕ) (command : Command) (r : Result (Unit {0}) E) → OnOk r (HasRoom old.world who command) → OnOk r (HasCommand new.world who)
-    → OnOk r ((h : History) → GiftLeads old.world new.world h who (law_command command)) → OnlyInMemory old new → OnOk r (WasGiven old new who command)
-was_given old new who command (Ok v) room busy leads memory = record { room = room; busy = busy; leads = leads; memory = memory }
-was_given old new who command (Err e) room busy leads memory = tt
+    → OnOk r ((h : History) → GiftLeads old.world new.world h who (law_command command)) → new.world.stale ≡ old.world.stale → OnlyInMemory old new → OnOk r (WasGiven old new who command)
+was_given old new who command (Ok v) room busy leads stale memory = record { room = room; busy = busy; leads = leads; stale = stale; memory = memory }
+was_given old new who command (Err e) room busy leads stale memory = tt
 
 -- what a turn of the openers promises is what it promises over their file
 pub took_turn : {E : Type 0} (tells : Bool) (old new : OverFile) (who : ℕ) (r : Result Turn E)

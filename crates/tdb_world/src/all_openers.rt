@@ -132,6 +132,7 @@ impl AllOpeners {
         ensures fits { (img : List ℕ) (size : ℕ) → WorldFits self.old img size → WorldFits self.new img size }
         ensures header { self.new.openers.header ≡ self.old.openers.header }
         ensures options { self.new.openers.options ≡ self.old.openers.options }
+        ensures stale { self.new.stale ≡ self.old.stale }
         ensures joins { IfOk result (λ who. (h : History) → JoinLeads self.old self.new h who) }
         ensures blocked { IfErr result (λ e. (owner : ℕ) → e ≡ JoinRefusal.Blocked owner → (length self.old.openers.openers < 1000)
             × ((h : History) (state : State) → IsStateOf self.old h state → 1 ≤ state.table (law_opener owner) 0)) }

@@ -124,6 +124,7 @@ impl AllOpeners {
         ensures given { OnOk result ((h : History) → GiftLeads self.old self.new h who (law_command command)) }
         ensures header { self.new.openers.header ≡ self.old.openers.header }
         ensures options { self.new.openers.options ≡ self.old.openers.options }
+        ensures stale { self.new.stale ≡ self.old.stale }
         ensures err { OnErr result (self.new ≡ self.old) }
     {
         let Some(holder) = &mut self.aside else {
@@ -154,6 +155,7 @@ impl AllOpeners {
         ensures given { (h : History) → GiftLeads self.old self.new h who (law_command command) }
         ensures header { self.new.openers.header ≡ self.old.openers.header }
         ensures options { self.new.openers.options ≡ self.old.openers.options }
+        ensures stale { self.new.stale ≡ self.old.stale }
     {
         if self.openers.begins(who, &command) {
             self.begin(who);
@@ -186,6 +188,7 @@ impl AllOpeners {
         ensures given { OnOk result ((h : History) → GiftLeads self.old self.new h who (law_command command)) }
         ensures header { self.new.openers.header ≡ self.old.openers.header }
         ensures options { self.new.openers.options ≡ self.old.openers.options }
+        ensures stale { self.new.stale ≡ self.old.stale }
         ensures err { OnErr result (self.new ≡ self.old) }
     {
         if self.is_aside(who) {

@@ -16,6 +16,7 @@ use Rattle.tdb_world.specs.OverFile.{OverFile, OnlyInMemory}
 pub record HasJoined (old new : OverFile) (who : ℕ) : Type 0 where
   pub number : who ≡ length old.world.openers.openers + 1
   pub leads : (h : History) → JoinLeads old.world new.world h who
+  pub stale : new.world.stale ≡ old.world.stale
   pub memory : OnlyInMemory old new
 
 -- None could: another one commits and holds the lock of those that open, or so many have joined; else memory is
@@ -45,6 +46,7 @@ pub record WasGiven (old new : OverFile) (who : ℕ) (command : Command) : Type 
   pub room : HasRoom old.world who command
   pub busy : HasCommand new.world who
   pub leads : (h : History) → GiftLeads old.world new.world h who (law_command command)
+  pub stale : new.world.stale ≡ old.world.stale
   pub memory : OnlyInMemory old new
 
 -- One died.

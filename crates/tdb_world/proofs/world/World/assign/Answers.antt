@@ -13,4 +13,4 @@ pub invariant_of-self : goal.invariant_of-self
 invariant_of-self g c unspent = c.assign.ensures.fits (seen (g.D.Disk.history c.self.inside.disk)) (g.D.Disk.size c.self.inside.disk) (c.self.invariant unspent)
 
 pub returns-clause-given : goal.returns-clause-given
-returns-clause-given g c = let e = c.assign.ensures in rw (← c.self.view_is) (was_given _ _ _ _ _ e.may e.busy e.given (only_memory _ _ e.header e.options))
+returns-clause-given g c = let e = c.assign.ensures in rw (← c.self.view_is) (was_given _ _ _ _ _ e.may e.busy e.given e.stale (only_memory _ _ e.header e.options))
