@@ -11,7 +11,7 @@ use Rattle.tdb_world.specs.States.{IsStateOf}
 use Rattle.tdb_world.specs.Courses.Led.{Moment, moment}
 
 -- The world; what its disk tells of the file, the history, the length and the counts of faults, of syncs and of bytes
--- that were read; and whether the disk failed in a turn or an undo, after which no other may be taken.
+-- that were read; and whether the disk failed in a call, after which no other may be made on it.
 pub record OverFile : Type 0 where
   pub world : Whole
   pub history : History

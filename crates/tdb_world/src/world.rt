@@ -1,5 +1,6 @@
 //! The world together with the disk that has its file.
-ghost use Rattle.std.specs.Prelude.{◌≡◌, IsTrue, length, false};
+ghost use Rattle.std.specs.Prelude.{◌≡◌, IsTrue, IfOk, is_err, length, false};
+ghost use Rattle.tdb_disk.specs.Count.{HasCause};
 ghost use Rattle.tdb_disk.specs.History.{seen};
 ghost use Rattle.tdb_world.specs.OverFile.{FitsFile, IsDiskOf};
 
@@ -11,9 +12,10 @@ mod turns;
 use crate::all_openers::AllOpeners;
 use std::marker::Model;
 use tdb_disk::Disk;
+use tdb_space::Io;
 
 /// All openers of one tdb file, and the disk that has the file. Contracts see the openers, what the disk tells, and
-/// whether the world is spent: the disk failed in a turn or an undo, and no other may be taken. It can't be dropped:
+/// whether the world is spent: the disk failed in a call, and no turn may be taken any more. It can't be dropped:
 /// `close` gives the disk back.
 pub struct World<D: Disk> {
     pub(crate) openers: AllOpeners,
@@ -38,7 +40,7 @@ impl<D: Disk> Model for World<D> {
 }
 
 impl<D: Disk> World<D> {
-    /// Whether the disk failed in a turn or an undo.
+    /// Whether the disk failed in a call.
     pub fn is_spent(&self) -> bool
         ensures { result ≡ self.now.spent }
     {
@@ -52,6 +54,20 @@ impl<D: Disk> World<D> {
         ensures sized { IsTrue D.tells → length (seen self.now.history) ≡ self.now.size }
     {
         let _ = &self.disk;
+    }
+
+    /// The length of the file in bytes. After `Io` the world is spent: the disk failed.
+    ///
+    /// Cost: one call of the disk.
+    pub fn length(&mut self) -> Result<u64, Io>
+        requires unspent { self.old.spent ≡ false }
+        ensures length { IfOk result (λ n. n ≡ self.old.size) }
+        ensures kept { self.new ≡ record self.old { faults = self.new.faults; spent = is_err result } }
+        ensures cause { HasCause self.old.faults self.new.faults result }
+    {
+        let length = self.disk.len();
+        self.spent = length.is_err();
+        Ok(length?)
     }
 
     /// Gives the openers up, with commands that aren't done and a transaction that isn't committed, and gives the disk
