@@ -184,7 +184,7 @@ task_wants input (Restore limit) file held = record { left = inl refl; done = λ
 task_wants input (Backup more suffix) file held = record {
   known = tt;
   done = λ is. cc;
-  stopped = λ other. inr (record { kept = inl (inl refl); copy = refl; left = inl (inl refl) }, λ name among. refl);
+  stopped = λ other. inr (record { kept = inl (inl refl); copy = refl; left = inl (inl refl) }, λ name among. refl, inr (inr (inl refl)));
 }
 task_wants input (Verify more suffix) file held = record {
   known = inr tt;

@@ -1,6 +1,6 @@
 -- What the copying of a file gives, from what its parts gave.
 use Rattle.std.proofs.Common.{◌≡◌, ◌⊎◌, ◌^◌, ◌<◌, ◌≤◌, ℕ, List, [], ◌∷◌, Option, None, Some, length, refl, sym, ◌∙◌, ap, subst, inl, inr, arith}
-use Rattle.std.specs.Prelude.{IsTrue, Bool}
+use Rattle.std.specs.Prelude.{IsTrue, Bool, slice_index}
 use Rattle.std.specs.Map.{lookup}
 use Rattle.tdb_words.specs.declared.header.Header.{Header}
 use Rattle.tdb_disk.specs.Count.{Rose}
@@ -13,6 +13,8 @@ use Rattle.tdb_space.specs.Accepted.{AcceptWith}
 use Rattle.tdb_space.proofs.Opening.Undone.{read_as_it_is, old_length}
 use Rattle.tdb_space.proofs.RecoverySteps.Steps.{restored_length}
 use Rattle.tdb_backup.specs.Building.{HoldsPairs, CopyCause}
+use Rattle.tdb_answer.specs.Commands.Create.{new_file_of}
+use Rattle.tdb_backup.specs.Room.{room_in}
 use Rattle.tdb_backup.specs.declared.refusal.CopyRefusal.{CopyRefusal}
 use Rattle.tdb_backup.specs.declared.refusal.CopyRefusal.TheVariants as C
 use Rattle.tdb_disk.specs.declared.files.TakeRefusal.{TakeRefusal}
@@ -25,7 +27,7 @@ use Rattle.tdb_answer.specs.declared.ending.Reply.TheVariants as Reply
 use Rattle.tdb_open.specs.declared.halt.Halt.{Halt}
 use Rattle.tdb_open.specs.declared.halt.Halt.TheVariants as H
 use Rattle.tdb_answer.specs.Commands.Backup.{IsCopyOf, IsNotCopied, of_copy, IsLeftOf, Stopped, EndsAt, BackupEnds, BackupCause, IsUntakenNew, CopyMade, copy_made, copy_full, copy_failed, copy_wanting, DiskCopied, disk_copied, disk_refused, disk_full, disk_failed, disk_wanting, disk_unlogged, IsUntaken, FileCopied, file_untaken, file_taken, BackedUpOne, EndsBackup, CountedBoth}
-use Rattle.tdb_open.specs.Creating.{IsNewFile}
+use Rattle.tdb_open.specs.Creating.{IsNewFile, new_image}
 use Rattle.tdb_answer.specs.Ending.{CountedBy, Untaken, of_halt}
 use Rattle.tdb_open.specs.Opening.{opened_bytes, CanOpen, IsCheckedOn, UndoneIfOpen, LookBroken, HeldOrUndone, HeldBroken, HaltsRightly, HaltLeaves}
 use Rattle.tdb_answer.proofs.Held.{held_kept}
@@ -49,32 +51,38 @@ module _ (img fresh : List ℕ) (o : Opened) (of_source of_copy : Header) (as_so
   source_accepted = subst (λ f. AcceptWith f img []) (sym source_form) checked.accepted
 
   module _ (file : IsNewFile o.header.hash_size o.header.order o.header.hash fresh) where
+    fresh_is : fresh ≡ new_file_of (form_of img)
+    fresh_is = file.bytes ∙ ap (λ f. new_image f.chains f.order f.hash) (ap form_in checked.header)
+
     -- the new file holds nothing yet, and is short enough
-    pub fresh_holds : HoldsPairs (form_in of_copy) fresh []
+    pub fresh_holds : HoldsPairs LONGEST_FILE (new_file_of (form_of img)) (form_in of_copy) fresh []
     fresh_holds = record {
       accepted = subst (λ f. AcceptWith f fresh []) (file.form ∙ sym (ap form_in as_copy)) file.accepted;
       map = λ k. ap (lookup (same_key k)) (subst (λ f. order_of f fresh ≡ []) (file.form ∙ sym (ap form_in as_copy)) file.empty);
+      room = ap (λ i. Some (room_in (form_in of_copy) i)) (sym fresh_is);
+      header = λ i _. ap (λ b. slice_index b i) fresh_is;
     }
 
     pub fresh_short : (size : ℕ) → length img < 2 ^ 32 → length fresh ≡ size → size < 2 ^ 32
     fresh_short size short is = omega (arith, is, short, file.long, checked.accepted.long, ap (λ f. f.chains) (ap form_in checked.header))
 
   -- what was copied, or wasn't, by the form of the image
-  pub as_copied : (now : List ℕ) → HoldsPairs (form_in of_copy) now (order_of (form_in of_source) img) → HoldsPairs (form_of img) now (order_of (form_of img) img)
-  as_copied now holds = subst (λ (q : Form × Form). HoldsPairs q.0 now (order_of q.1 img)) (λ j. (copy_form j, source_form j)) holds
+  pub as_copied : (now : List ℕ) → HoldsPairs LONGEST_FILE (new_file_of (form_of img)) (form_in of_copy) now (order_of (form_in of_source) img) → HoldsPairs LONGEST_FILE (new_file_of (form_of img)) (form_of img) now (order_of (form_of img) img)
+  as_copied now holds = subst (λ (q : Form × Form). HoldsPairs LONGEST_FILE (new_file_of (form_of img)) q.0 now (order_of q.1 img)) (λ j. (copy_form j, source_form j)) holds
 
-  pub as_refused : (now : List ℕ) (e : CopyRefusal) → CopyCause (form_in of_copy) now (order_of (form_in of_source) img) LONGEST_FILE e → IsNotCopied img e
-  as_refused now e cause = (now, subst (λ (q : Form × Form). CopyCause q.0 now (order_of q.1 img) LONGEST_FILE e) (λ j. (copy_form j, source_form j)) cause)
+  pub as_refused : (now : List ℕ) (e : CopyRefusal) → CopyCause (new_file_of (form_of img)) (form_in of_copy) now (order_of (form_in of_source) img) LONGEST_FILE e → IsNotCopied img e
+  as_refused now e cause = (now, subst (λ (q : Form × Form). CopyCause (new_file_of (form_of img)) q.0 now (order_of q.1 img) LONGEST_FILE e) (λ j. (copy_form j, source_form j)) cause)
 
 -- a sync puts the copy on the medium
-pub copied_synced : (img : List ℕ) (old now : History) → HoldsPairs (form_of img) (seen old) (order_of (form_of img) img) → now ≡ called old synced → IsCopyOf img now
+pub copied_synced : (img : List ℕ) (old now : History) → HoldsPairs LONGEST_FILE (new_file_of (form_of img)) (form_of img) (seen old) (order_of (form_of img) img) → now ≡ called old synced → IsCopyOf img now
 copied_synced img old now holds done =
     let same : seen now ≡ seen old = ap seen done in
-    let h : HoldsPairs (form_of img) (seen now) (order_of (form_of img) img) = subst (λ i. HoldsPairs (form_of img) i (order_of (form_of img) img)) (sym same) holds in
+    let h : HoldsPairs LONGEST_FILE (new_file_of (form_of img)) (form_of img) (seen now) (order_of (form_of img) img) = subst (λ i. HoldsPairs LONGEST_FILE (new_file_of (form_of img)) (form_of img) i (order_of (form_of img) img)) (sym same) holds in
     record {
       accepted = subst (λ f. AcceptWith f (seen now) []) (sym h.accepted.form) h.accepted;
       form = h.accepted.form;
       map = h.map;
+      built = h;
       quiet = quiet_synced old now done;
     }
 

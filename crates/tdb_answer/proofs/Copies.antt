@@ -9,7 +9,7 @@ use Rattle.tdb_answer.specs.declared.ending.Reply.TheVariants as Reply
 use Rattle.tdb_open.specs.declared.halt.Refusal.{Refusal}
 use Rattle.tdb_open.specs.declared.halt.Refusal.TheVariants.{TooLong, Header, Corrupt, NeedsRecovery}
 use Rattle.tdb_cmdline.specs.CopyNames.{copy_name, new_name, made_name, IsNameOf, IsNameAmong, IsForCopyAmong, NamesDiffer}
-use Rattle.tdb_answer.specs.Commands.Backup.{Copied, CopiedAll, Stopped, AllStay, StoppedAt, IsLeftOf, WasOpened, EndsAt, BackupEnds, BackupCause, EndsBackup, BackedUpOne, BackedUp}
+use Rattle.tdb_answer.specs.Commands.Backup.{Copied, CopiedAll, Stopped, AllStay, StoppedAt, IsLeftOf, WasOpened, EndsAt, BackupEnds, BackupCause, BackupStops, EndsBackup, BackedUpOne, BackedUp}
 use Rattle.tdb_answer.specs.Ending.{status_of}
 use Rattle.tdb_open.specs.Opening.{HeldOrUndone, HeldBroken}
 use Rattle.tdb_answer.proofs.Held.{same_or_other, held_undone}
@@ -75,14 +75,14 @@ not_own suffix file name files apart copy none (inr is) = none is
 
 module _ (suffix : List ℕ) (old now : Held) where
   -- at each name but those for copies
-  pub stopped_kept : (broken : Type 0) → (broken → ⊥) → (files : List (List ℕ)) → StoppedAt broken suffix files old now → (name : List ℕ) → (IsForCopyAmong suffix files name → ⊥)
+  pub stopped_kept : (broken : Type 0) (why : List ℕ → Option History → Type 0) → (broken → ⊥) → (files : List (List ℕ)) → StoppedAt broken why suffix files old now → (name : List ℕ) → (IsForCopyAmong suffix files name → ⊥)
       → ((IsNameAmong false suffix files name → ⊥) → now name ≡ old name) → HeldOrUndone (old name) (now name)
-  stopped_kept broken never [] stopped name copy other = absurd stopped
-  stopped_kept broken never (file ∷ files) (inl both) name copy other = elim (same_or_other name file) [
+  stopped_kept broken why never [] stopped name copy other = absurd stopped
+  stopped_kept broken why never (file ∷ files) (inl both) name copy other = elim (same_or_other name file) [
     | inl here ↦ subst (λ n. HeldOrUndone (old n) (now n)) (sym here) (copied_kept file (copy_name suffix file) (new_name suffix file) old now both.0)
-    | inr apart ↦ stopped_kept broken never files both.1 name (λ among. copy (inr among)) (λ none. other (not_own suffix file name files apart copy none))
+    | inr apart ↦ stopped_kept broken why never files both.1 name (λ among. copy (inr among)) (λ none. other (not_own suffix file name files apart copy none))
   ]
-  stopped_kept broken never (file ∷ files) (inr both) name copy other = elim (same_or_other name file) [
+  stopped_kept broken why never (file ∷ files) (inr both) name copy other = elim (same_or_other name file) [
     | inl here ↦ subst (λ n. HeldOrUndone (old n) (now n)) (sym here) (elim both.0.kept [ inl kept ↦ kept | inr breaks ↦ absurd (never breaks.0) ])
     | inr apart ↦
         elim (among_or_other false suffix files name) [
@@ -99,10 +99,10 @@ module _ (suffix : List ℕ) (old now : Held) where
     left = elim s.left [ inl left ↦ inl left | inr breaks ↦ inr (more breaks) ];
   }
 
-  pub stopped_weaker : (A B : Type 0) → (A → B) → (files : List (List ℕ)) → StoppedAt A suffix files old now → StoppedAt B suffix files old now
-  stopped_weaker A B more [] stopped = stopped
-  stopped_weaker A B more (file ∷ files) (inl both) = inl (both.0, stopped_weaker A B more files both.1)
-  stopped_weaker A B more (file ∷ files) (inr both) = inr (weaker A B more file (copy_name suffix file) (new_name suffix file) both.0, both.1)
+  pub stopped_weaker : (A B : Type 0) (V W : List ℕ → Option History → Type 0) → (A → B) → ((file : List ℕ) (held : Option History) → V file held → W file held) → (files : List (List ℕ)) → StoppedAt A V suffix files old now → StoppedAt B W suffix files old now
+  stopped_weaker A B V W more why [] stopped = stopped
+  stopped_weaker A B V W more why (file ∷ files) (inl both) = inl (both.0, stopped_weaker A B V W more why files both.1)
+  stopped_weaker A B V W more why (file ∷ files) (inr both) = inr (weaker A B more file (copy_name suffix file) (new_name suffix file) both.0, both.1, why file (old file) both.2)
 
 -- the names of a file that was copied stay as they are then
 copied_later : (file at_copy at_new : List ℕ) (old mid now : Held) → now file ≡ mid file → now at_copy ≡ mid at_copy → now at_new ≡ mid at_new → Copied file at_copy at_new old mid → Copied file at_copy at_new old now
@@ -147,9 +147,9 @@ module _ (suffix : List ℕ) (old mid now : Held) where
     left = subst (λ o. IsLeftOf o (now at_new) ⊎ broken) new s.left;
   }
 
-  pub all_stopped_since : (broken : Type 0) (files : List (List ℕ)) → AllStay false suffix files old mid → StoppedAt broken suffix files mid now → StoppedAt broken suffix files old now
-  all_stopped_since broken [] same stopped = stopped
-  all_stopped_since broken (file ∷ files) same (inl both) =
+  pub all_stopped_since : (broken : Type 0) (why : List ℕ → Option History → Type 0) (files : List (List ℕ)) → AllStay false suffix files old mid → StoppedAt broken why suffix files mid now → StoppedAt broken why suffix files old now
+  all_stopped_since broken why [] same stopped = stopped
+  all_stopped_since broken why (file ∷ files) same (inl both) =
       let c = both.0 in
       inl (
         record {
@@ -164,12 +164,13 @@ module _ (suffix : List ℕ) (old mid now : Held) where
           copy_of = c.copy_of;
           gone = c.gone;
         },
-        all_stopped_since broken files (λ name among. same name (inr among)) both.1,
+        all_stopped_since broken why files (λ name among. same name (inr among)) both.1,
       )
-  all_stopped_since broken (file ∷ files) same (inr both) =
+  all_stopped_since broken why (file ∷ files) same (inr both) =
       inr (
         stopped_since broken file (copy_name suffix file) (new_name suffix file) (same file (inl (inl refl))) (same (copy_name suffix file) (inl (inr (inl refl)))) (same (new_name suffix file) (inl (inr (inr refl)))) both.0,
         λ name among. both.1 name among ∙ same name (inr among),
+        subst (why file) (same file (inl (inl refl))) both.2,
       )
 
   pub ends_since : (files : List (List ℕ)) (e : Ending) → AllStay false suffix files old mid → BackupEnds files mid e → BackupEnds files old e
@@ -189,7 +190,7 @@ module _ (suffix file : List ℕ) (files : List (List ℕ)) (differ : NamesDiffe
     leaves = record {
       known = known;
       done = λ is. absurd (other is);
-      stopped = λ _. inr (one.stopped other, rest_stays);
+      stopped = λ _. inr (one.stopped other, rest_stays, stops one.cause);
     };
   }
     where
@@ -197,6 +198,12 @@ module _ (suffix file : List ℕ) (files : List (List ℕ)) (differ : NamesDiffe
       of (inl (inl at)) = inl (inl at)
       of (inl (inr both)) = absurd (other both.1)
       of (inr fault) = inr fault
+
+      stops : BackupCause (file ∷ []) old before between e → BackupStops e file (old file)
+      stops (inl (inl at)) = inl at
+      stops (inl (inr both)) = absurd (other both.1)
+      stops (inr (inl fault)) = inr (inl fault.0)
+      stops (inr (inr wanting)) = inr (inr wanting)
 
   -- it was copied, and then the others were backed up
   module _ (counted : between ≡ before) (one : BackedUpOne file (copy_name suffix file) (new_name suffix file) old mid before between (Replied Reply.Copied)) where
@@ -207,7 +214,7 @@ module _ (suffix file : List ℕ) (files : List (List ℕ)) (differ : NamesDiffe
       leaves = record {
         known = rest.leaves.known;
         done = λ is. (first, all_copied_since suffix old mid now files rest_stays (rest.leaves.done is));
-        stopped = λ other. inl (first, all_stopped_since suffix old mid now (e ≡ DeviceFault) files rest_stays (rest.leaves.stopped other));
+        stopped = λ other. inl (first, all_stopped_since suffix old mid now (e ≡ DeviceFault) (BackupStops e) files rest_stays (rest.leaves.stopped other));
       };
     }
       where

@@ -1,6 +1,6 @@
 -- A new file holds no pair; and a sync leaves what was restored.
 use Rattle.std.proofs.Common.{◌≡◌, ℕ, ◌^◌, ◌<◌, ◌≤◌, List, [], Option, None, Some, length, refl, sym, ◌∙◌, ap, subst, inl, inr, arith}
-use Rattle.std.specs.Prelude.{IsTrue, IsSome}
+use Rattle.std.specs.Prelude.{IsTrue, IsSome, slice_index}
 use Rattle.std.specs.Map.{lookup}
 use Rattle.std.proofs.lemmas.Bool.{false≢true}
 use Rattle.tdb_words.specs.declared.word.Order.TheVariants.{Little}
@@ -14,6 +14,8 @@ use Rattle.tdb_space.specs.Pairs.{order_of, same_key}
 use Rattle.tdb_space.specs.Accepted.{AcceptWith}
 use Rattle.tdb_backup.specs.Building.{HoldsPairs}
 use Rattle.tdb_backup.specs.Restoring.{Restored}
+use Rattle.tdb_answer.specs.Commands.Create.{new_file_of}
+use Rattle.tdb_backup.specs.Room.{room_in}
 use Rattle.tdb_backup.specs.declared.refusal.RestoreRefusal.{RestoreRefusal}
 use Rattle.tdb_backup.specs.declared.refusal.RestoreRefusal.TheVariants as R
 use Rattle.tdb_cmdline.specs.declared.limits.TheConstants.{DEFAULT_SIZE}
@@ -31,10 +33,12 @@ use Rattle.tdb_answer.specs.Reads.{AskCause}
 use Rattle.tdb_answer.proofs.Acting.{rose_earlier}
 
 module _ (img : List ℕ) (file : IsNewFile DEFAULT_SIZE Little Old img) where
-  pub holds_nothing : HoldsPairs new_form img []
-  holds_nothing = record {
+  pub holds_nothing : (limit : ℕ) → HoldsPairs limit (new_file_of new_form) new_form img []
+  holds_nothing limit = record {
     accepted = subst (λ f. AcceptWith f img []) file.form file.accepted;
     map = λ k. ap (lookup (same_key k)) (subst (λ f. order_of f img ≡ []) file.form file.empty);
+    room = ap (λ i. Some (room_in new_form i)) (sym file.bytes);
+    header = λ i _. ap (λ b. slice_index b i) file.bytes;
   }
 
   -- and is short enough
@@ -42,9 +46,9 @@ module _ (img : List ℕ) (file : IsNewFile DEFAULT_SIZE Little Old img) where
   new_short size is = omega (arith, is, file.long)
 
 -- a sync puts what was restored on the medium
-pub restored_synced : (text : List ℕ) (old now : History) → Restored new_form (seen old) text → now ≡ called old synced → IsRestored text now
-restored_synced text old now restored done = record {
-  restored = subst (λ img. Restored new_form img text) (sym (ap seen done)) restored;
+pub restored_synced : (limit : ℕ) (text : List ℕ) (old now : History) → Restored limit (new_file_of new_form) new_form (seen old) text → now ≡ called old synced → IsRestored limit text now
+restored_synced limit text old now restored done = record {
+  restored = subst (λ img. Restored limit (new_file_of new_form) new_form img text) (sym (ap seen done)) restored;
   quiet = quiet_synced old now done;
 }
 
@@ -58,7 +62,7 @@ module _ (input : Input) (limit : ℕ) (name : List ℕ) (held : Option History)
   by_input e read = inr (inl (record { limit = limit; restores = refl; none = fresh; read = read }))
 
   -- all pairs came into the file
-  pub whole_cause : (IsTrue input.tells → (img : List ℕ) × Restored new_form img input.text) → AskCause input (Restore limit) name held before after (E.Replied Reply.Restored)
+  pub whole_cause : (IsTrue input.tells → (img : List ℕ) × Restored limit (new_file_of new_form) new_form img input.text) → AskCause input (Restore limit) name held before after (E.Replied Reply.Restored)
   whole_cause whole = by_input (E.Replied Reply.Restored) (read_whole whole)
 
   refusal_cause : (r : RestoreRefusal) → CountedBy before after (of_restore r) → (IsTrue input.tells → TextRefused input.text limit r) → (r ≡ R.Input → Rose input.faults_before input.faults_after)
@@ -118,16 +122,16 @@ pub refused_unlogged : (r : RestoreRefusal) (e : Ending) → e ≡ of_restore r 
 refused_unlogged r e is logged = refusal_unlogged r (sym is ∙ logged)
 
 -- what is left where the file is gone again
-pub removed_left : (input : Input) (held now : Option History) (r : RestoreRefusal) (e : Ending) → held ≡ None → now ≡ None → e ≡ of_restore r → RestoreLeaves input held e now
-removed_left input held now r e fresh gone is = record {
+pub removed_left : (limit : ℕ) (input : Input) (held now : Option History) (r : RestoreRefusal) (e : Ending) → held ≡ None → now ≡ None → e ≡ of_restore r → RestoreLeaves limit input held e now
+removed_left limit input held now r e fresh gone is = record {
   left = inl (gone ∙ sym fresh);
   done = λ nil. absurd (refusal_status r (sym (ap status_of is) ∙ nil));
   there = λ some. absurd (false≢true (subst IsSome fresh some));
 }
 
 -- a call that failed leaves anything where nothing was
-pub failed_left : (input : Input) (held now : Option History) → held ≡ None → RestoreLeaves input held E.DeviceFault now
-failed_left input held now fresh = record {
+pub failed_left : (limit : ℕ) (input : Input) (held now : Option History) → held ≡ None → RestoreLeaves limit input held E.DeviceFault now
+failed_left limit input held now fresh = record {
   left = inr (inr refl);
   done = λ is. absurd (omega (arith, is));
   there = λ some. absurd (false≢true (subst IsSome fresh some));

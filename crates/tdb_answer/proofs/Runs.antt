@@ -39,7 +39,7 @@ use Rattle.tdb_answer.specs.Damaged.{CanMend}
 use Rattle.tdb_answer.proofs.Damaged.{not_mended, unmendable_three}
 use Rattle.tdb_answer.specs.Commands.Merge.{merge_told, MergeEnds, MergedOn, MergeLeft, merge_unopened, merge_ran, MergeInto, into_untaken, into_taken, MergeLeaves, file_untaken, file_halted, file_read}
 use Rattle.tdb_answer.specs.Commands.Restore.{of_input, HeardBy}
-use Rattle.tdb_answer.specs.Commands.Backup.{BackupLeaves, EndsBackup, IsLeftOf, IsUntaken}
+use Rattle.tdb_answer.specs.Commands.Backup.{BackupLeaves, BackupStops, EndsBackup, IsLeftOf, IsUntaken}
 use Rattle.tdb_answer.specs.Commands.Verify.{VerifyLeaves, EndsVerify}
 use Rattle.tdb_answer.specs.Input.{Input}
 use Rattle.tdb_answer.specs.Output.{Output}
@@ -54,7 +54,7 @@ use Rattle.tdb_gen.specs.declared.summary.Summary.{Summary}
 use Rattle.tdb_gen.specs.Summary.{summary_text}
 use Rattle.tdb_answer.specs.Commands.Generate.{HasMade, GenLeaves}
 use Rattle.tdb_open.specs.Opening.{opened_bytes, CanRead, OpensToRead, HeldOrUndone, SameOrUndone, UndoneIfOpen, OpenedBelow}
-use Rattle.tdb_answer.specs.Run.{Run, MayEnd, is_due, is_read, is_copied, is_verified, is_played, is_served, is_generated, is_repacked, is_converted, is_merged, is_mended, call_failed, memory_wanting, log_failed, TellsFault, ActsOn, LooksInto, Rescues, PrintsOf, Repacks, Converts, Mends, RefusesExactly, KeepsAll, EndsMidway, ActRun, PrintRun, RepackRun, MakingRun, RestoringRun, BackupRun, VerifyRun, ConvertRun, WasMerged, MergeRun, MendRun, TurnsRun, SessionRun, GeneratingRun, IsCopyName, LeavesFiles, Accounted}
+use Rattle.tdb_answer.specs.Run.{Run, StopsWith, MayEnd, is_due, is_read, is_copied, is_verified, is_played, is_served, is_generated, is_repacked, is_converted, is_merged, is_mended, call_failed, memory_wanting, log_failed, TellsFault, ActsOn, LooksInto, Rescues, PrintsOf, Repacks, Converts, Mends, RefusesExactly, KeepsAll, EndsMidway, ActRun, PrintRun, RepackRun, MakingRun, RestoringRun, BackupRun, VerifyRun, ConvertRun, WasMerged, MergeRun, MendRun, TurnsRun, SessionRun, GeneratingRun, IsCopyName, LeavesFiles, Accounted}
 use Rattle.tdb_answer.proofs.Held.{same_held, same_or_other, held_kept}
 use Rattle.tdb_answer.proofs.Copies.{stopped_kept, stopped_weaker, backup_zero}
 use Rattle.tdb_answer.proofs.Verifying.{verified_zero, all_left_weaker, verify_kept}
@@ -893,8 +893,8 @@ module _ (before after status : ℕ) where
   making_run form old now (Malformed at) out counted left = absurd left
 
   -- what a run leaves at the name of a file that was to be made of the input
-  restoring_run : (input : Input) (old now : Option History) (t : Ending) → Exits status t → CountedBy before after t → (t ≡ Replied Restored → status ≡ 0) → RestoreLeaves input old t now → RestoringRun input old before after status now
-  restoring_run input old now t out counted restored left = record {
+  restoring_run : (limit : ℕ) (input : Input) (old now : Option History) (t : Ending) → Exits status t → CountedBy before after t → (t ≡ Replied Restored → status ≡ 0) → RestoreLeaves limit input old t now → RestoringRun limit input old before after status now
+  restoring_run limit input old now t out counted restored left = record {
     done = λ is. left.done (zero_status out is);
     there = left.there;
     kept = λ undone four. of undone four left.left;
@@ -918,10 +918,15 @@ module _ (before after status : ℕ) where
       → BackupRun suffix files old before after status now
   backup_run suffix files old now t out counted silent left = record {
     done = λ is. left.done (ended t left.known out is);
-    stopped = λ other. stopped_weaker suffix old now (t ≡ DeviceFault) (((status ≡ 4) ⊎ (status ≡ 8)) × Rose before after)
-        (λ fault. (fault_exits (subst (Exits status) fault out), counted.failed fault)) files (left.stopped (λ done. other (silent done)));
+    stopped = λ other. stopped_weaker suffix old now (t ≡ DeviceFault) (((status ≡ 4) ⊎ (status ≡ 8)) × Rose before after) (BackupStops t) (StopsWith status)
+        (λ fault. (fault_exits (subst (Exits status) fault out), counted.failed fault)) (λ file held stops. (t, statuses out, stops)) files (left.stopped (λ done. other (silent done)));
   }
     where
+      statuses : Exits status t → (status ≡ status_of t) ⊎ (status ≡ 5) ⊎ (status ≡ 8)
+      statuses (inl own) = inl own
+      statuses (inr (inl want)) = inr (inl want.0)
+      statuses (inr (inr eight)) = inr (inr eight)
+
       ended : (t : Ending) → EndsBackup t → Exits status t → status ≡ 0 → t ≡ Replied Copied
       ended t known (inl own) is = backup_zero t known (sym own ∙ is)
       ended t known (inr (inl want)) is = absurd (omega (arith, want.0, is))
@@ -1407,8 +1412,8 @@ module _ (run : Run) (logs later : List Logged) (t : Ending) (out : Exits run.st
   made : (form : NewFile) (name : List ℕ) → run.ask ≡ Some (record { file = name; task = Create form }) → MakingRun form (run.old name) run.faults_before run.faults_after run.status (run.now name)
   made form name asks = making_run run.faults_before run.faults_after run.status form (run.old name) (run.now name) t out counted (asked_left (Create form) name asks)
 
-  restoring : (limit : ℕ) (name : List ℕ) → run.ask ≡ Some (record { file = name; task = Restore limit }) → RestoringRun run.input (run.old name) run.faults_before run.faults_after run.status (run.now name)
-  restoring limit name asks = restoring_run run.faults_before run.faults_after run.status run.input (run.old name) (run.now name) t out counted (λ done. silent (inl done)) (asked_left (Restore limit) name asks)
+  restoring : (limit : ℕ) (name : List ℕ) → run.ask ≡ Some (record { file = name; task = Restore limit }) → RestoringRun limit run.input (run.old name) run.faults_before run.faults_after run.status (run.now name)
+  restoring limit name asks = restoring_run run.faults_before run.faults_after run.status limit run.input (run.old name) (run.now name) t out counted (λ done. silent (inl done)) (asked_left (Restore limit) name asks)
 
   backing_up : (more : List (List ℕ)) (suffix name : List ℕ) → run.ask ≡ Some (record { file = name; task = Backup more suffix }) → BackupRun suffix (name ∷ more) run.old run.faults_before run.faults_after run.status run.now
   backing_up more suffix name asks = backup_run run.faults_before run.faults_after run.status suffix (name ∷ more) run.old run.now t out counted (λ done. silent (inr (inl done))) (asked_left (Backup more suffix) name asks)
@@ -1574,13 +1579,13 @@ module _ (run : Run) (logs later : List Logged) (t : Ending) (out : Exits run.st
       (same name)
   task_kept keeps (Restore limit) file name asks midway same at copy =
       at_name name file
-      (elim ((restoring_run run.faults_before run.faults_after run.status run.input (run.old file) (run.now file) t out counted (λ done. silent (inl done)) at).kept keeps.0 keeps.1) [
+      (elim ((restoring_run run.faults_before run.faults_after run.status limit run.input (run.old file) (run.now file) t out counted (λ done. silent (inl done)) at).kept keeps.0 keeps.1) [
         | inl held ↦ inl held
         | inr eight ↦ absurd (keeps.2 eight.0)
       ])
       (same name)
   task_kept keeps (Backup more suffix) file name asks midway same at copy =
-      stopped_kept suffix run.old run.now _ (λ broken. elim broken.0 [ inl four ↦ keeps.1 four | inr eight ↦ keeps.2 eight ]) (file ∷ more)
+      stopped_kept suffix run.old run.now _ (StopsWith run.status) (λ broken. elim broken.0 [ inl four ↦ keeps.1 four | inr eight ↦ keeps.2 eight ]) (file ∷ more)
       ((backup_run run.faults_before run.faults_after run.status suffix (file ∷ more) run.old run.now t out counted (λ done. silent (inr (inl done))) at).stopped keeps.0) name (λ among. copy (inl (more, suffix, file, inl (refl, among)))) (same name)
   task_kept keeps (Verify more suffix) file name asks midway same at copy =
       verify_kept suffix run.old run.now _ (λ broken. elim broken.0 [ inl four ↦ keeps.1 four | inr eight ↦ keeps.2 eight ]) (file ∷ more)

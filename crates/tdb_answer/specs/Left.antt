@@ -62,15 +62,15 @@ OnLeaves act None e now = now ≡ None
 OnLeaves act (Some old) e now = (h : History) × (now ≡ Some h) × ActLeaves act old e h
 
 -- a file was made of the pairs that the input had, where it tells them
-abbrev pub HasRestored : Input → Option History → Option History → Type 0
-HasRestored input old now = (h : History) × (old ≡ None) × (now ≡ Some h) × (IsTrue input.tells → IsRestored input.text h)
+abbrev pub HasRestored : ℕ → Input → Option History → Option History → Type 0
+HasRestored limit input old now = (h : History) × (old ≡ None) × (now ≡ Some h) × (IsTrue input.tells → IsRestored limit input.text h)
 
 -- What a restore leaves at the name of its file: what was there, but where it is done or a call of the files failed.
 -- Where it is done no file was there, and the new one has the pairs. A file that was there stays whatever the ending
 -- is.
-pub record RestoreLeaves (input : Input) (old : Option History) (e : Ending) (now : Option History) : Type 0 where
+pub record RestoreLeaves (limit : ℕ) (input : Input) (old : Option History) (e : Ending) (now : Option History) : Type 0 where
   pub left : (now ≡ old) ⊎ (e ≡ Replied Restored) ⊎ (e ≡ DeviceFault)
-  pub done : status_of e ≡ 0 → HasRestored input old now
+  pub done : status_of e ≡ 0 → HasRestored limit input old now
   pub there : IsSome old → now ≡ old
 
 -- what a task on the file of this name leaves there, and one that writes it anew, a backup or a verification at all its
@@ -82,7 +82,7 @@ TaskLeaves input Rescue file old e now = now file ≡ old file
 TaskLeaves input (Print printout limit) file old e now = PrintLeaves limit (old file) e (now file)
 TaskLeaves input (Repack limit) file old e now = RepackLeaves limit file old e now
 TaskLeaves input (Create form) file old e now = MakingLeaves form (old file) e (now file)
-TaskLeaves input (Restore limit) file old e now = RestoreLeaves input (old file) e (now file)
+TaskLeaves input (Restore limit) file old e now = RestoreLeaves limit input (old file) e (now file)
 TaskLeaves input (Backup more suffix) file old e now = BackupLeaves suffix (file ∷ more) old e now
 TaskLeaves input (Verify more suffix) file old e now = VerifyLeaves suffix (file ∷ more) old e now
 TaskLeaves input (Convert new made prefix) file old e now = (now file ≡ old file) × ConvertLeaves made prefix file new (old file) (old new) e (now new)

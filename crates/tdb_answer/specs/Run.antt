@@ -23,7 +23,7 @@ use Rattle.tdb_log.specs.Logs.{Logged}
 use Rattle.tdb_answer.specs.Output.{Output}
 use Rattle.tdb_answer.specs.Printed.{TextBefore, ask_tells, Writes}
 use Rattle.tdb_cmdline.specs.CopyNames.{IsForCopyAmong, IsForRestoreAmong, temporary_name}
-use Rattle.tdb_answer.specs.Commands.Backup.{CopiedAll, StoppedAt, IsLeftOf, BackupEnds}
+use Rattle.tdb_answer.specs.Commands.Backup.{BackupStops, CopiedAll, StoppedAt, IsLeftOf, BackupEnds}
 use Rattle.tdb_answer.specs.Commands.Repack.{RepackEnds, HasRepacked}
 use Rattle.tdb_answer.specs.Commands.Convert.{ConvertEnds, WasConverted}
 use Rattle.tdb_answer.specs.Commands.Mend.{MendEnds, WasMended, StaysSynced}
@@ -228,16 +228,20 @@ pub record MakingRun (file : NewFile) (old : Option History) (before after statu
 
 -- What a run leaves at the name of a file that is to be made of the pairs on the input. Where the status is neither 0
 -- nor 4 no file is left that wasn't there, unless a call of the files failed and then the output too.
-pub record RestoringRun (input : Input) (old : Option History) (before after status : ℕ) (now : Option History) : Type 0 where
-  pub done : status ≡ 0 → HasRestored input old now
+pub record RestoringRun (limit : ℕ) (input : Input) (old : Option History) (before after status : ℕ) (now : Option History) : Type 0 where
+  pub done : status ≡ 0 → HasRestored limit input old now
   pub there : IsSome old → now ≡ old
   pub kept : status ≢ 0 → status ≢ 4 → (now ≡ old) ⊎ ((status ≡ 8) × Rose before after)
+
+-- why a run ends with this status at a file of a backup, also where memory is wanting then, or the output fails
+abbrev pub StopsWith : ℕ → List ℕ → Option History → Type 0
+StopsWith status file held = (e : Ending) × ((status ≡ status_of e) ⊎ (status ≡ 5) ⊎ (status ≡ 8)) × BackupStops e file held
 
 -- What a run leaves at the names of a backup of these files. Where the status isn't 0 the first ones may be copied.
 -- What a failed call leaves stands only where the status is 4 or 8 and the count of faults rose.
 pub record BackupRun (suffix : List ℕ) (files : List (List ℕ)) (old : List ℕ → Option History) (before after status : ℕ) (now : List ℕ → Option History) : Type 0 where
   pub done : status ≡ 0 → CopiedAll suffix files old now
-  pub stopped : status ≢ 0 → StoppedAt (((status ≡ 4) ⊎ (status ≡ 8)) × Rose before after) suffix files old now
+  pub stopped : status ≢ 0 → StoppedAt (((status ≡ 4) ⊎ (status ≡ 8)) × Rose before after) (StopsWith status) suffix files old now
 
 -- What a run leaves at the names of a verification of these files, in the same way: where the status isn't 0 the first
 -- ones may be verified.
@@ -337,7 +341,7 @@ pub record LeavesFiles (run : Run) (logs later : List Logged) : Type 0 where
   pub made : (file : NewFile) (name : List ℕ) → run.ask ≡ Some (record { file = name; task = Create file })
       → MakingRun file (run.old name) run.faults_before run.faults_after run.status (run.now name)
   pub restored : (limit : ℕ) (name : List ℕ) → run.ask ≡ Some (record { file = name; task = Restore limit })
-      → RestoringRun run.input (run.old name) run.faults_before run.faults_after run.status (run.now name)
+      → RestoringRun limit run.input (run.old name) run.faults_before run.faults_after run.status (run.now name)
   pub backed_up : (more : List (List ℕ)) (suffix name : List ℕ) → run.ask ≡ Some (record { file = name; task = Backup more suffix })
       → BackupRun suffix (name ∷ more) run.old run.faults_before run.faults_after run.status run.now
   pub verified : (more : List (List ℕ)) (suffix name : List ℕ) → run.ask ≡ Some (record { file = name; task = Verify more suffix })

@@ -17,12 +17,14 @@ use Rattle.tdb_space.proofs.Pairs.Orders.{order_distinct}
 use Rattle.tdb_space.proofs.Pairs.Maps.{same_key-eq, same_key-refl, same_key-other, lookup_append, lookup_absent}
 use Rattle.tdb_backup.specs.declared.traversal.Traversal.{Traversal}
 use Rattle.tdb_backup.specs.Traversal.{Gave, pair_at_hand}
-use Rattle.tdb_backup.specs.Filling.{Added, InsertCause, HasNoRoom}
+use Rattle.tdb_backup.specs.Filling.{Added, Filled, InsertCause, HasNoRoom}
 use Rattle.tdb_backup.specs.declared.refusal.InsertRefusal.{InsertRefusal}
 use Rattle.tdb_backup.specs.declared.refusal.InsertRefusal.TheVariants.{Full, Io, Memory}
 use Rattle.tdb_backup.specs.Building.{HoldsPairs, HoldsFront, CopyCause, of_read, of_insert}
+use Rattle.tdb_backup.specs.Room.{room_in}
 use Rattle.tdb_backup.proofs.Walk.{moved}
 use Rattle.tdb_backup.proofs.Dumped.{gave_front}
+use Rattle.tdb_backup.proofs.Rooms.{room_of_more}
 
 -- what holds of each key holds of one in the middle
 among : (P : List ℕ → Type 0) (front : List (List ℕ × List ℕ)) (p : List ℕ × List ℕ) (rest : List (List ℕ × List ℕ)) → AllByRecursion P (keys_of (front ++ p ∷ rest)) → P p.0
@@ -81,36 +83,42 @@ next_pair f img hands given p t A h =
     }
 
 -- the image that holds some pairs doesn't have a new key
-pub holds_not : (f : Form) (img : List ℕ) (given : List (List ℕ × List ℕ)) (k : List ℕ) → HoldsPairs f img given → lookup (same_key k) given ≡ None → map_of f img k ≡ None
-holds_not f img given k h new = h.map k ∙ new
+pub holds_not : (limit : ℕ) (first : List ℕ) (f : Form) (img : List ℕ) (given : List (List ℕ × List ℕ)) (k : List ℕ) → HoldsPairs limit first f img given → lookup (same_key k) given ≡ None → map_of f img k ≡ None
+holds_not limit first f img given k h new = h.map k ∙ new
 
 -- with the pair added it holds that one too
-pub holds_more : (f : Form) (a b : List ℕ) (given : List (List ℕ × List ℕ)) (p : List ℕ × List ℕ) → HoldsPairs f a given → lookup (same_key p.0) given ≡ None → Added f a b p.0 p.1 → HoldsPairs f b (given ++ p ∷ [])
-holds_more f a b given p h new added = record {
+pub holds_more : (limit : ℕ) (first : List ℕ) (f : Form) (a b : List ℕ) (given : List (List ℕ × List ℕ)) (p : List ℕ × List ℕ) → HoldsPairs limit first f a given → lookup (same_key p.0) given ≡ None → Added f a b p.0 p.1
+    → Filled f a b (rec_len_for (length p.0) (length p.1)) limit → HoldsPairs limit first f b (given ++ p ∷ [])
+holds_more limit first f a b given p h new added left = record {
   accepted = added.accepted;
   map = λ k. added.map k ∙ ap (λ old. cond (same_key p.0 k) (Some p.1) old) (h.map k) ∙ map_pushed given p k new;
+  room = room_of_more limit (room_in f first) (room_in f a) (room_in f b) given p h.room left.room;
+  header = λ i low. left.header i low ∙ h.header i low;
 }
 
 -- what was given is a front of the order
-pub holds_front : (f g : Form) (img b : List ℕ) (given : List (List ℕ × List ℕ)) (t : Traversal) → Gave f img given t → HoldsPairs g b given → HoldsFront g b (order_of f img)
-holds_front f g img b given t h holds = let front = gave_front f img given t h in record { given = given; rest = front.0; split = front.1; holds = holds }
+pub holds_front : (limit : ℕ) (first : List ℕ) (f g : Form) (img b : List ℕ) (given : List (List ℕ × List ℕ)) (t : Traversal) → Gave f img given t → HoldsPairs limit first g b given → HoldsFront limit first g b (order_of f img)
+holds_front limit first f g img b given t h holds = let front = gave_front f img given t h in record { given = given; rest = front.0; split = front.1; holds = holds }
 
 -- the next pair was added
-pub added_next : (f l : Form) (a b : List ℕ) (given : List (List ℕ × List ℕ)) (p : List ℕ × List ℕ) (key value : List ℕ) → l ≡ f → key ≡ p.0 → value ≡ p.1 → HoldsPairs f a given → lookup (same_key p.0) given ≡ None
-    → (AcceptWith l a [] → map_of l a key ≡ None → Added l a b key value) → HoldsPairs f b (given ++ p ∷ [])
-added_next f l a b given p key value same same_key_there same_value holds new added =
+pub added_next : (limit : ℕ) (first : List ℕ) (f l : Form) (a b : List ℕ) (given : List (List ℕ × List ℕ)) (p : List ℕ × List ℕ) (key value : List ℕ) → l ≡ f → key ≡ p.0 → value ≡ p.1 → HoldsPairs limit first f a given → lookup (same_key p.0) given ≡ None
+    → (AcceptWith l a [] → map_of l a key ≡ None → Added l a b key value)
+    → (AcceptWith l a [] → map_of l a key ≡ None → Filled l a b (rec_len_for (length key) (length value)) limit) → HoldsPairs limit first f b (given ++ p ∷ [])
+added_next limit first f l a b given p key value same same_key_there same_value holds new added leaves =
     let there : AcceptWith l a [] = subst (λ x. AcceptWith x a []) (sym same) holds.accepted in
     let absent : map_of l a key ≡ None = (λ j. map_of (same j) a (same_key_there j)) ∙ holds.map p.0 ∙ new in
     let made : Added f a b key value = subst (λ x. Added x a b key value) same (added there absent) in
     let made_there : Added f a b p.0 p.1 = subst (λ q. Added f a b p.0 q) same_value (subst (λ q. Added f a b q value) same_key_there made) in
-    holds_more f a b given p holds new made_there
+    let left : Filled f a b (rec_len_for (length key) (length value)) limit = subst (λ x. Filled x a b (rec_len_for (length key) (length value)) limit) same (leaves there absent) in
+    let left_there : Filled f a b (rec_len_for (length p.0) (length p.1)) limit = subst (λ q. Filled f a b (rec_len_for (length p.0) (length q)) limit) same_value (subst (λ q. Filled f a b (rec_len_for (length q) (length value)) limit) same_key_there left) in
+    holds_more limit first f a b given p holds new made_there left_there
 
 -- the next pair wasn't added
-pub refused_next : (f l : Form) (a b : List ℕ) (order given : List (List ℕ × List ℕ)) (p : List ℕ × List ℕ) (key value : List ℕ) → l ≡ f → key ≡ p.0 → value ≡ p.1 → (limit : ℕ) (e : InsertRefusal) → NextPair order given p → HoldsPairs f a given
-    → (AcceptWith l a [] → InsertCause l a b (rec_len_for (length key) (length value)) limit e) → CopyCause f b order limit (of_insert e)
-refused_next f l a b order given p key value same same_key_there same_value limit e next holds cause = of_cause e (cause (subst (λ x. AcceptWith x a []) (sym same) holds.accepted))
+pub refused_next : (first : List ℕ) (f l : Form) (a b : List ℕ) (order given : List (List ℕ × List ℕ)) (p : List ℕ × List ℕ) (key value : List ℕ) → l ≡ f → key ≡ p.0 → value ≡ p.1 → (limit : ℕ) (e : InsertRefusal) → NextPair order given p → HoldsPairs limit first f a given
+    → (AcceptWith l a [] → InsertCause l a b (rec_len_for (length key) (length value)) limit e) → CopyCause first f b order limit (of_insert e)
+refused_next first f l a b order given p key value same same_key_there same_value limit e next holds cause = of_cause e (cause (subst (λ x. AcceptWith x a []) (sym same) holds.accepted))
   where
-    of_cause : (e : InsertRefusal) → InsertCause l a b (rec_len_for (length key) (length value)) limit e → CopyCause f b order limit (of_insert e)
+    of_cause : (e : InsertRefusal) → InsertCause l a b (rec_len_for (length key) (length value)) limit e → CopyCause first f b order limit (of_insert e)
     of_cause (Full len need) full =
         let kept = full.no_room.same in
         record {
@@ -118,15 +126,15 @@ refused_next f l a b order given p key value same same_key_there same_value limi
           next = p;
           rest = next.rest;
           split = next.split;
-          holds = subst (λ i. HoldsPairs f i given) (sym kept) holds;
+          holds = subst (λ i. HoldsPairs limit first f i given) (sym kept) holds;
           no_room = subst (λ q. HasNoRoom f b b (rec_len_for (length p.0) (length q)) limit len need) same_value (subst (λ q. HasNoRoom f b b (rec_len_for (length q) (length value)) limit len need) same_key_there (subst (λ x. HasNoRoom x b b (rec_len_for (length key) (length value)) limit len need) same (subst (λ i. HasNoRoom l i b (rec_len_for (length key) (length value)) limit len need) (sym kept) full)));
         }
     of_cause Io cause = tt
     of_cause Memory kept =
-        record { given = given; rest = p ∷ next.rest; split = next.split; holds = subst (λ i. HoldsPairs f i given) (sym kept) holds }
+        record { given = given; rest = p ∷ next.rest; split = next.split; holds = subst (λ i. HoldsPairs limit first f i given) (sym kept) holds }
 
-module _ (f k : Form) (img v : List ℕ) (hands : List HandPair) (g l : Form) (a b : List ℕ) (t u : Traversal) (more : Bool) (form : k ≡ f) (image : v ≡ img) (same : l ≡ g) (A : AcceptWith f img hands)
-    (d : (given : List (List ℕ × List ℕ)) × Gave f img given t × HoldsPairs g a given)
+module _ (limit : ℕ) (first : List ℕ) (f k : Form) (img v : List ℕ) (hands : List HandPair) (g l : Form) (a b : List ℕ) (t u : Traversal) (more : Bool) (form : k ≡ f) (image : v ≡ img) (same : l ≡ g) (A : AcceptWith f img hands)
+    (d : (given : List (List ℕ × List ℕ)) × Gave f img given t × HoldsPairs limit first g a given)
     (answer : (hands : List HandPair) → AcceptWith k v hands → (given : List (List ℕ × List ℕ)) → Gave k v given t
     → MatchBool more (Gave k v (given ++ pair_at_hand u ∷ []) u) (Gave k v given u × (order_of k v ≡ given))) where
   answered : MatchBool more (Gave k v (d.0 ++ pair_at_hand u ∷ []) u) (Gave k v d.0 u × (order_of k v ≡ d.0))
@@ -140,28 +148,29 @@ module _ (f k : Form) (img v : List ℕ) (hands : List HandPair) (g l : Form) (a
   -- a pair more was given, and was added
   pub built_more : more ≡ true → (key value : List ℕ) → key ≡ (pair_at_hand u).0 → value ≡ (pair_at_hand u).1
       → (AcceptWith l a [] → map_of l a key ≡ None → Added l a b key value)
-      → (given : List (List ℕ × List ℕ)) × Gave f img given u × HoldsPairs g b given
-  built_more another key value same_key_there same_value added =
+      → (AcceptWith l a [] → map_of l a key ≡ None → Filled l a b (rec_len_for (length key) (length value)) limit)
+      → (given : List (List ℕ × List ℕ)) × Gave f img given u × HoldsPairs limit first g b given
+  built_more another key value same_key_there same_value added leaves =
       let p = pair_at_hand u in
       let gave = given_more another in
       let next = next_pair f img hands d.0 p u A gave in
-      (d.0 ++ p ∷ [], gave, added_next g l a b d.0 p key value same same_key_there same_value d.2 next.new added)
+      (d.0 ++ p ∷ [], gave, added_next limit first g l a b d.0 p key value same same_key_there same_value d.2 next.new added leaves)
 
   -- no pair is left
-  pub built_all : more ≡ false → HoldsPairs g a (order_of f img)
+  pub built_all : more ≡ false → HoldsPairs limit first g a (order_of f img)
   built_all ended =
       let all = MatchBool-at_false (Gave k v (d.0 ++ pair_at_hand u ∷ []) u) (Gave k v d.0 u × (order_of k v ≡ d.0)) ended answered in
       let order : order_of f img ≡ d.0 = moved (λ x i. order_of x i ≡ d.0) f k img v form image all.1 in
-      subst (HoldsPairs g a) (sym order) d.2
+      subst (HoldsPairs limit first g a) (sym order) d.2
 
   -- a pair more was given, but wasn't added
-  pub built_refused : more ≡ true → (key value : List ℕ) → key ≡ (pair_at_hand u).0 → value ≡ (pair_at_hand u).1 → (limit : ℕ) (e : InsertRefusal)
-      → (AcceptWith l a [] → InsertCause l a b (rec_len_for (length key) (length value)) limit e) → CopyCause g b (order_of f img) limit (of_insert e)
-  built_refused another key value same_key_there same_value limit e cause =
+  pub built_refused : more ≡ true → (key value : List ℕ) → key ≡ (pair_at_hand u).0 → value ≡ (pair_at_hand u).1 → (e : InsertRefusal)
+      → (AcceptWith l a [] → InsertCause l a b (rec_len_for (length key) (length value)) limit e) → CopyCause first g b (order_of f img) limit (of_insert e)
+  built_refused another key value same_key_there same_value e cause =
       let next = next_pair f img hands d.0 (pair_at_hand u) u A (given_more another) in
-      refused_next g l a b (order_of f img) d.0 (pair_at_hand u) key value same same_key_there same_value limit e next d.2 cause
+      refused_next first g l a b (order_of f img) d.0 (pair_at_hand u) key value same same_key_there same_value limit e next d.2 cause
 
 -- a pair wasn't read
-pub built_unread : (f g : Form) (img a : List ℕ) (t : Traversal) → ((given : List (List ℕ × List ℕ)) × Gave f img given t × HoldsPairs g a given) → (limit : ℕ) (e : Value.ValueRefusal) → CopyCause g a (order_of f img) limit (of_read e)
-built_unread f g img a t d limit Value.TheVariants.Io = holds_front f g img a d.0 t d.1 d.2
-built_unread f g img a t d limit Value.TheVariants.Memory = holds_front f g img a d.0 t d.1 d.2
+pub built_unread : (limit : ℕ) (first : List ℕ) (f g : Form) (img a : List ℕ) (t : Traversal) → ((given : List (List ℕ × List ℕ)) × Gave f img given t × HoldsPairs limit first g a given) → (e : Value.ValueRefusal) → CopyCause first g a (order_of f img) limit (of_read e)
+built_unread limit first f g img a t d Value.TheVariants.Io = holds_front limit first f g img a d.0 t d.1 d.2
+built_unread limit first f g img a t d Value.TheVariants.Memory = holds_front limit first f g img a d.0 t d.1 d.2

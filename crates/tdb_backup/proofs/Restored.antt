@@ -84,30 +84,30 @@ pair_next before pairs i p low is distinct =
     }
 
 -- a pair wasn't added
-pub pair_refused : (f : Form) (img text : List ℕ) (pairs : List Pair) (limit : ℕ) (e : InsertRefusal) → BeginsWith text pairs → CopyCause f img (keys_and_values pairs) limit (of_insert e) → RestoreCause f img text limit (of_pair e)
-pair_refused f img text pairs limit (Insert.Full len need) begins cause = (pairs, begins, cause)
-pair_refused f img text pairs limit Insert.Io begins cause = tt
-pair_refused f img text pairs limit Insert.Memory begins cause = (pairs, begins, cause)
+pub pair_refused : (first : List ℕ) (f : Form) (img text : List ℕ) (pairs : List Pair) (limit : ℕ) (e : InsertRefusal) → BeginsWith text pairs → CopyCause first f img (keys_and_values pairs) limit (of_insert e) → RestoreCause first f img text limit (of_pair e)
+pair_refused first f img text pairs limit (Insert.Full len need) begins cause = (pairs, begins, cause)
+pair_refused first f img text pairs limit Insert.Io begins cause = tt
+pair_refused first f img text pairs limit Insert.Memory begins cause = (pairs, begins, cause)
 
 -- ---- piece by piece
 
 -- all pairs that were given are held
-pub holds_given : (f : Form) (img text more : List ℕ) (pairs : List Pair) → BeginsWith text pairs → HoldsPairs f img (keys_and_values pairs) → HoldsSome f img (text ++ more)
-holds_given f img text more pairs begins holds =
+pub holds_given : (limit : ℕ) (first : List ℕ) (f : Form) (img text more : List ℕ) (pairs : List Pair) → BeginsWith text pairs → HoldsPairs limit first f img (keys_and_values pairs) → HoldsSome limit first f img (text ++ more)
+holds_given limit first f img text more pairs begins holds =
     (pairs, begun_more text more pairs begins, record { given = keys_and_values pairs; rest = []; split = sym (append-nil (keys_and_values pairs)); holds = holds })
 
 -- a piece, and another one behind it
-pub went_on : (told later : Type 0) (f g : Form) (a b c text : List ℕ) (before : List Pair) (piece more : List ℕ) (r s : Reader) → g ≡ f → (told → later)
-    → (w : WentOn told f a b text before piece r) → WentOn later g b c (text ++ piece) (before ++ w.pairs) more s → WentOn told f a c text before (piece ++ more) s
-went_on told later f g a b c text before piece more r s same still w v =
+pub went_on : (limit : ℕ) (told later : Type 0) (f g : Form) (a b c text : List ℕ) (before : List Pair) (piece more : List ℕ) (r s : Reader) → g ≡ f → (told → later)
+    → (w : WentOn limit told f a b text before piece r) → WentOn limit later g b c (text ++ piece) (before ++ w.pairs) more s → WentOn limit told f a c text before (piece ++ more) s
+went_on limit told later f g a b c text before piece more r s same still w v =
     let joined = append_assoc before w.pairs v.pairs in
     record {
       pairs = w.pairs ++ v.pairs;
       took = subst (λ t. Took t (before ++ (w.pairs ++ v.pairs)) s) (append_assoc text piece more) (subst (λ ps. Took ((text ++ piece) ++ more) ps s) joined v.took);
-      holds = λ t h.
-          (let there : HoldsPairs g b (keys_and_values (before ++ w.pairs)) = subst (λ x. HoldsPairs x b (keys_and_values (before ++ w.pairs))) (sym same) (w.holds t h) in
-          let all : HoldsPairs f c (keys_and_values ((before ++ w.pairs) ++ v.pairs)) = subst (λ x. HoldsPairs x c (keys_and_values ((before ++ w.pairs) ++ v.pairs))) same (v.holds (still t) there) in
-          subst (λ ps. HoldsPairs f c (keys_and_values ps)) joined all);
+      holds = λ t first h.
+          (let there : HoldsPairs limit first g b (keys_and_values (before ++ w.pairs)) = subst (λ x. HoldsPairs limit first x b (keys_and_values (before ++ w.pairs))) (sym same) (w.holds t first h) in
+          let all : HoldsPairs limit first f c (keys_and_values ((before ++ w.pairs) ++ v.pairs)) = subst (λ x. HoldsPairs limit first x c (keys_and_values ((before ++ w.pairs) ++ v.pairs))) same (v.holds (still t) first there) in
+          subst (λ ps. HoldsPairs limit first f c (keys_and_values ps)) joined all);
     }
 
 -- ---- what is read of a text
@@ -168,9 +168,9 @@ front_of_most so_far more low =
     ap (λ m. take m (so_far ++ more)) n ∙ take-append-add so_far more (LONGEST_TEXT - length so_far)
 
 -- the reader refuses the text, whatever follows
-pub stops_in_piece : (f : Form) (img so_far more : List ℕ) (pairs : List Pair) (limit at : ℕ) → RefusedAt so_far pairs at → length so_far ≤ LONGEST_TEXT → HoldsPairs f img (keys_and_values pairs)
-    → RestoreCause f img (so_far ++ more) limit (Malformed at)
-stops_in_piece f img so_far more pairs limit at (place, shows, refused) low holds =
+pub stops_in_piece : (first : List ℕ) (f : Form) (img so_far more : List ℕ) (pairs : List Pair) (limit at : ℕ) → RefusedAt so_far pairs at → length so_far ≤ LONGEST_TEXT → HoldsPairs limit first f img (keys_and_values pairs)
+    → RestoreCause first f img (so_far ++ more) limit (Malformed at)
+stops_in_piece first f img so_far more pairs limit at (place, shows, refused) low holds =
     let rest = take (LONGEST_TEXT - length so_far) more in
     let within : place ≤ length so_far = subst (λ t. place ≤ length t) (append-nil so_far) (bad_within (so_far ++ []) pairs place (refused.bad [])) in
     let is : at ≡ place = shown_place at place shows (omega (arith, within, low)) in
@@ -178,15 +178,15 @@ stops_in_piece f img so_far more pairs limit at (place, shows, refused) low hold
     (pairs, record { bad = inl (subst (λ t. BadAt t pairs at) (sym (front_of_most so_far more low)) bad); never = λ others dump short. refused.never more others dump }, holds)
 
 -- the reader refuses a piece
-pub text_refused : (f : Form) (img so_far more : List ℕ) (pairs : List Pair) (limit : ℕ) (e : ReadRefusal) → ((at : ℕ) → e ≡ Read.Malformed at → RefusedAt so_far pairs at) → BeginsWith so_far pairs → length so_far ≤ LONGEST_TEXT → HoldsPairs f img (keys_and_values pairs)
-    → RestoreCause f img (so_far ++ more) limit (of_text e)
-text_refused f img so_far more pairs limit (Read.Malformed at) malformed begins low holds = stops_in_piece f img so_far more pairs limit at (malformed at refl) low holds
-text_refused f img so_far more pairs limit Read.Memory malformed begins low holds = holds_given f img so_far more pairs begins holds
+pub text_refused : (first : List ℕ) (f : Form) (img so_far more : List ℕ) (pairs : List Pair) (limit : ℕ) (e : ReadRefusal) → ((at : ℕ) → e ≡ Read.Malformed at → RefusedAt so_far pairs at) → BeginsWith so_far pairs → length so_far ≤ LONGEST_TEXT → HoldsPairs limit first f img (keys_and_values pairs)
+    → RestoreCause first f img (so_far ++ more) limit (of_text e)
+text_refused first f img so_far more pairs limit (Read.Malformed at) malformed begins low holds = stops_in_piece first f img so_far more pairs limit at (malformed at refl) low holds
+text_refused first f img so_far more pairs limit Read.Memory malformed begins low holds = holds_given limit first f img so_far more pairs begins holds
 
 -- the text ends badly, or where no more of it is read
-pub stops_at_end : (f : Form) (img text whole : List ℕ) (pairs : List Pair) (limit at : ℕ) → text ≡ take LONGEST_TEXT whole → EndsBadlyAt text pairs at → HoldsPairs f img (keys_and_values pairs)
-    → RestoreCause f img whole limit (Malformed at)
-stops_at_end f img text whole pairs limit at front (place, shows, ends) holds =
+pub stops_at_end : (first : List ℕ) (f : Form) (img text whole : List ℕ) (pairs : List Pair) (limit at : ℕ) → text ≡ take LONGEST_TEXT whole → EndsBadlyAt text pairs at → HoldsPairs limit first f img (keys_and_values pairs)
+    → RestoreCause first f img whole limit (Malformed at)
+stops_at_end first f img text whole pairs limit at front (place, shows, ends) holds =
     let low : length text ≤ LONGEST_TEXT = omega (arith, ap length front, length-take LONGEST_TEXT whole) in
     let within : place ≤ length text = bad_within text pairs place ends.bad in
     let is : at ≡ place = shown_place at place shows (omega (arith, within, low)) in
@@ -200,12 +200,12 @@ stops_at_end f img text whole pairs limit at front (place, shows, ends) holds =
     )
 
 -- the reader refuses the end
-pub end_refused : (f : Form) (img text whole : List ℕ) (pairs : List Pair) (limit : ℕ) (e : ReadRefusal) → text ≡ take LONGEST_TEXT whole → ((at : ℕ) → e ≡ Read.Malformed at → EndsBadlyAt text pairs at) → BeginsWith text pairs → HoldsPairs f img (keys_and_values pairs)
-    → RestoreCause f img whole limit (of_text e)
-end_refused f img text whole pairs limit (Read.Malformed at) front malformed begins holds = stops_at_end f img text whole pairs limit at front (malformed at refl) holds
-end_refused f img text whole pairs limit Read.Memory front malformed begins holds =
+pub end_refused : (first : List ℕ) (f : Form) (img text whole : List ℕ) (pairs : List Pair) (limit : ℕ) (e : ReadRefusal) → text ≡ take LONGEST_TEXT whole → ((at : ℕ) → e ≡ Read.Malformed at → EndsBadlyAt text pairs at) → BeginsWith text pairs → HoldsPairs limit first f img (keys_and_values pairs)
+    → RestoreCause first f img whole limit (of_text e)
+end_refused first f img text whole pairs limit (Read.Malformed at) front malformed begins holds = stops_at_end first f img text whole pairs limit at front (malformed at refl) holds
+end_refused first f img text whole pairs limit Read.Memory front malformed begins holds =
     let all : text ++ drop LONGEST_TEXT whole ≡ whole = ap (λ t. t ++ drop LONGEST_TEXT whole) front ∙ take-append-drop LONGEST_TEXT whole in
-    subst (HoldsSome f img) all (holds_given f img text (drop LONGEST_TEXT whole) pairs begins holds)
+    subst (HoldsSome limit first f img) all (holds_given limit first f img text (drop LONGEST_TEXT whole) pairs begins holds)
 
 -- it is no fault of the outside
 pub text_no_input : (e : ReadRefusal) → of_text e ≡ Input → ⊥
@@ -217,9 +217,9 @@ text_no_io (Read.Malformed at) same = cc
 text_no_io Read.Memory same = cc
 
 -- the text goes on behind the most that is read of it
-pub stops_at_most : (f : Form) (img text whole : List ℕ) (pairs : List Pair) (limit : ℕ) → text ≡ take LONGEST_TEXT whole → LONGEST_TEXT < length whole → Dump text pairs → HoldsPairs f img (keys_and_values pairs)
-    → RestoreCause f img whole limit (Malformed LONGEST_TEXT)
-stops_at_most f img text whole pairs limit front longer dump holds =
+pub stops_at_most : (first : List ℕ) (f : Form) (img text whole : List ℕ) (pairs : List Pair) (limit : ℕ) → text ≡ take LONGEST_TEXT whole → LONGEST_TEXT < length whole → Dump text pairs → HoldsPairs limit first f img (keys_and_values pairs)
+    → RestoreCause first f img whole limit (Malformed LONGEST_TEXT)
+stops_at_most first f img text whole pairs limit front longer dump holds =
     (pairs, record { bad = inr (longer, subst (λ t. Dump t pairs) front dump, refl); never = λ others d short. absurd (omega (arith, longer, short)) }, holds)
 
 -- a text that doesn't go on is short enough
@@ -231,6 +231,6 @@ short_enough whole longer ends goes_on =
     ]
 
 -- the text was read to its end
-pub restored_whole : (f : Form) (img text whole : List ℕ) (pairs : List Pair) → text ≡ take LONGEST_TEXT whole → length whole ≤ LONGEST_TEXT → Dump text pairs → HoldsPairs f img (keys_and_values pairs) → Restored f img whole
-restored_whole f img text whole pairs front short dump holds =
+pub restored_whole : (limit : ℕ) (first : List ℕ) (f : Form) (img text whole : List ℕ) (pairs : List Pair) → text ≡ take LONGEST_TEXT whole → length whole ≤ LONGEST_TEXT → Dump text pairs → HoldsPairs limit first f img (keys_and_values pairs) → Restored limit first f img whole
+restored_whole limit first f img text whole pairs front short dump holds =
     record { pairs = pairs; dump = subst (λ t. Dump t pairs) (front ∙ take_all LONGEST_TEXT whole short) dump; short = short; holds = holds }

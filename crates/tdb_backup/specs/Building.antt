@@ -1,43 +1,47 @@
 -- A file that is built from pairs.
-use Rattle.std.specs.Prelude.{◌≡◌, ℕ, List, [], ◌∷◌, ◌++◌, length}
+use Rattle.std.specs.Prelude.{◌≡◌, ℕ, List, [], ◌∷◌, ◌++◌, length, Some}
 use Rattle.std.specs.Map.{lookup}
 use Rattle.tdb_chain.specs.declared.refusal.ValueRefusal as Value
 use Rattle.tdb_space.specs.Form.{Form}
 use Rattle.tdb_space.specs.NewRecord.{rec_len_for}
 use Rattle.tdb_space.specs.Pairs.{map_of, same_key}
 use Rattle.tdb_space.specs.Accepted.{AcceptWith}
-use Rattle.tdb_backup.specs.Filling.{HasNoRoom}
+use Rattle.tdb_backup.specs.Filling.{HasNoRoom, KeepsHeader}
+use Rattle.tdb_backup.specs.Room.{record_lengths, room_behind, room_in}
 use Rattle.tdb_backup.specs.declared.refusal.InsertRefusal as Insert
 use Rattle.tdb_backup.specs.declared.refusal.CopyRefusal.{CopyRefusal}
 use Rattle.tdb_backup.specs.declared.refusal.CopyRefusal.TheVariants.{Read, Write, Full, Memory}
 
--- the image is accepted, and its map is that of these pairs
-pub record HoldsPairs (f : Form) (img : List ℕ) (given : List (List ℕ × List ℕ)) : Type 0 where
+-- The image is accepted, and its map is that of these pairs. They were added to another image in their order: what is
+-- left of its room is what their records leave within a limit, and the header is as it was.
+pub record HoldsPairs (limit : ℕ) (first : List ℕ) (f : Form) (img : List ℕ) (given : List (List ℕ × List ℕ)) : Type 0 where
   pub accepted : AcceptWith f img []
   pub map : (k : List ℕ) → map_of f img k ≡ lookup (same_key k) given
+  pub room : room_behind limit (room_in f first) (record_lengths given) ≡ Some (room_in f img)
+  pub header : KeepsHeader first img
 
 -- the image holds the first of these pairs
-pub record HoldsFront (f : Form) (img : List ℕ) (order : List (List ℕ × List ℕ)) : Type 0 where
+pub record HoldsFront (limit : ℕ) (first : List ℕ) (f : Form) (img : List ℕ) (order : List (List ℕ × List ℕ)) : Type 0 where
   pub given : List (List ℕ × List ℕ)
   pub rest : List (List ℕ × List ℕ)
   pub split : order ≡ given ++ rest
-  pub holds : HoldsPairs f img given
+  pub holds : HoldsPairs limit first f img given
 
 -- the image holds the first of these pairs, and has no room for the next one within a limit
-pub record FullFor (f : Form) (img : List ℕ) (order : List (List ℕ × List ℕ)) (limit len need : ℕ) : Type 0 where
+pub record FullFor (first : List ℕ) (f : Form) (img : List ℕ) (order : List (List ℕ × List ℕ)) (limit len need : ℕ) : Type 0 where
   pub given : List (List ℕ × List ℕ)
   pub next : List ℕ × List ℕ
   pub rest : List (List ℕ × List ℕ)
   pub split : order ≡ given ++ next ∷ rest
-  pub holds : HoldsPairs f img given
+  pub holds : HoldsPairs limit first f img given
   pub no_room : HasNoRoom f img img (rec_len_for (length next.0) (length next.1)) limit len need
 
 -- why not all of these pairs are added, where the image is this one then
-abbrev pub CopyCause : Form → List ℕ → List (List ℕ × List ℕ) → ℕ → CopyRefusal → Type 0
-CopyCause f img order limit Read = HoldsFront f img order
-CopyCause f img order limit Write = Unit {0}
-CopyCause f img order limit (Full len need) = FullFor f img order limit len need
-CopyCause f img order limit Memory = HoldsFront f img order
+abbrev pub CopyCause : List ℕ → Form → List ℕ → List (List ℕ × List ℕ) → ℕ → CopyRefusal → Type 0
+CopyCause first f img order limit Read = HoldsFront limit first f img order
+CopyCause first f img order limit Write = Unit {0}
+CopyCause first f img order limit (Full len need) = FullFor first f img order limit len need
+CopyCause first f img order limit Memory = HoldsFront limit first f img order
 
 -- a copy is refused as the pair that it is to read
 abbrev pub of_read : Value.ValueRefusal → CopyRefusal

@@ -1,5 +1,5 @@
 -- What adding a pair makes of an image, and why it is refused.
-use Rattle.std.specs.Prelude.{◌≡◌, ℕ, ◌+◌, ◌<◌, ◌≤◌, List, [], ◌∷◌, length, Some}
+use Rattle.std.specs.Prelude.{◌≡◌, ℕ, ◌+◌, ◌<◌, ◌≤◌, List, [], ◌∷◌, length, slice_index, Some}
 use Rattle.std.specs.Map.{update}
 use Rattle.tdb_words.specs.declared.record.TheConstants.{USED}
 use Rattle.tdb_words.specs.declared.word.Order.{Order}
@@ -13,6 +13,7 @@ use Rattle.tdb_space.specs.Extents.{HandPair, times, all_extents}
 use Rattle.tdb_space.specs.Accepted.{AcceptWith}
 use Rattle.tdb_free.specs.Growth.{NoRoom}
 use Rattle.tdb_free.specs.declared.refusal.FreeRefusal as Free
+use Rattle.tdb_backup.specs.Room.{room_in, room_left}
 use Rattle.tdb_backup.specs.declared.refusal.InsertRefusal.{InsertRefusal}
 use Rattle.tdb_backup.specs.declared.refusal.InsertRefusal.TheVariants.{Full, Io, Memory}
 
@@ -41,6 +42,16 @@ pub record PutFirst (f : Form) (a b key value : List ℕ) : Type 0 where
   pub used : ((j : ℕ) → j < f.chains → AllUsed f.order a (chain_of f a j)) → (j : ℕ) → j < f.chains → AllUsed f.order b (chain_of f b j)
   pub area : word f.order b area_head ≡ word f.order a area_head
   pub each : word f.order a area_head ≡ 0 → HoldsEach f a [] → HoldsEach f b []
+
+-- from image a to image b each byte of the header stays
+abbrev pub KeepsHeader : List ℕ → List ℕ → Type 0
+KeepsHeader a b = (i : ℕ) → i < 168 → slice_index b i ≡ slice_index a i
+
+-- From image a to image b a record of so many bytes behind its header was added: what is left of the room is what a take
+-- leaves within the limit, and the header stays.
+pub record Filled (f : Form) (a b : List ℕ) (rec_len limit : ℕ) : Type 0 where
+  pub room : room_left limit (room_in f a) rec_len ≡ Some (room_in f b)
+  pub header : KeepsHeader a b
 
 -- An image of `len` bytes has no room for `need` bytes more, the record and its header: no free record is long enough,
 -- the image can't grow by so many, and it is as it was.

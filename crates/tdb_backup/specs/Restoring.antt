@@ -23,11 +23,11 @@ pub record IsShort (pair : Pair) : Type 0 where
   pub value : length pair.value < 2 ^ 32
 
 -- the text is dump text, not too long, and the image holds its pairs
-pub record Restored (f : Form) (img text : List ℕ) : Type 0 where
+pub record Restored (limit : ℕ) (first : List ℕ) (f : Form) (img text : List ℕ) : Type 0 where
   pub pairs : List Pair
   pub dump : Dump text pairs
   pub short : length text ≤ LONGEST_TEXT
-  pub holds : HoldsPairs f img (keys_and_values pairs)
+  pub holds : HoldsPairs limit first f img (keys_and_values pairs)
 
 -- The text isn't dump text that is short enough. Behind the whole records of the pairs it stops to be one at this
 -- place, which is where the longest text ends if it is dump text up to there.
@@ -36,16 +36,16 @@ pub record StopsAt (text : List ℕ) (pairs : List Pair) (place : ℕ) : Type 0 
   pub never : (others : List Pair) → Dump text others → length text ≤ LONGEST_TEXT → ⊥
 
 -- the image holds the first of the pairs of whole records with which the text begins
-abbrev pub HoldsSome : Form → List ℕ → List ℕ → Type 0
-HoldsSome f img text = (pairs : List Pair) × BeginsWith text pairs × HoldsFront f img (keys_and_values pairs)
+abbrev pub HoldsSome : ℕ → List ℕ → Form → List ℕ → List ℕ → Type 0
+HoldsSome limit first f img text = (pairs : List Pair) × BeginsWith text pairs × HoldsFront limit first f img (keys_and_values pairs)
 
 -- why not all pairs of the text are added, where the image is this one then
-abbrev pub RestoreCause : Form → List ℕ → List ℕ → ℕ → RestoreRefusal → Type 0
-RestoreCause f img text limit Input = HoldsSome f img text
-RestoreCause f img text limit Io = Unit {0}
-RestoreCause f img text limit (Malformed at) = (pairs : List Pair) × StopsAt text pairs at × HoldsPairs f img (keys_and_values pairs)
-RestoreCause f img text limit (Full len need) = (pairs : List Pair) × BeginsWith text pairs × FullFor f img (keys_and_values pairs) limit len need
-RestoreCause f img text limit Memory = HoldsSome f img text
+abbrev pub RestoreCause : List ℕ → Form → List ℕ → List ℕ → ℕ → RestoreRefusal → Type 0
+RestoreCause first f img text limit Input = HoldsSome limit first f img text
+RestoreCause first f img text limit Io = Unit {0}
+RestoreCause first f img text limit (Malformed at) = (pairs : List Pair) × StopsAt text pairs at × HoldsPairs limit first f img (keys_and_values pairs)
+RestoreCause first f img text limit (Full len need) = (pairs : List Pair) × BeginsWith text pairs × FullFor first f img (keys_and_values pairs) limit len need
+RestoreCause first f img text limit Memory = HoldsSome limit first f img text
 
 -- a reader of some text, which has given some pairs
 abbrev pub IsReading : Reader → Type 0
@@ -53,19 +53,19 @@ IsReading r = (text : List ℕ) × (pairs : List Pair) × Took text pairs r
 
 -- A reader has taken a piece behind a text, and given pairs behind others. Where it is told so, and image a holds those
 -- others, image b holds them all.
-pub record WentOn (told : Type 0) (f : Form) (a b text : List ℕ) (before : List Pair) (piece : List ℕ) (r : Reader) : Type 0 where
+pub record WentOn (limit : ℕ) (told : Type 0) (f : Form) (a b text : List ℕ) (before : List Pair) (piece : List ℕ) (r : Reader) : Type 0 where
   pub pairs : List Pair
   pub took : Took (text ++ piece) (before ++ pairs) r
-  pub holds : told → HoldsPairs f a (keys_and_values before) → HoldsPairs f b (keys_and_values (before ++ pairs))
+  pub holds : told → (first : List ℕ) → HoldsPairs limit first f a (keys_and_values before) → HoldsPairs limit first f b (keys_and_values (before ++ pairs))
 
 -- a piece was taken so, whatever the reader had taken before
-abbrev pub PieceAdded : Type 0 → Form → List ℕ → List ℕ → Reader → Reader → List ℕ → Type 0
-PieceAdded told f a b old new piece = (text : List ℕ) (before : List Pair) → Took text before old → WentOn told f a b text before piece new
+abbrev pub PieceAdded : ℕ → Type 0 → Form → List ℕ → List ℕ → Reader → Reader → List ℕ → Type 0
+PieceAdded limit told f a b old new piece = (text : List ℕ) (before : List Pair) → Took text before old → WentOn limit told f a b text before piece new
 
 -- why a piece wasn't taken, or its pairs weren't added, whatever the reader had taken before and whatever follows
 abbrev pub PieceCause : Type 0 → Form → List ℕ → List ℕ → Reader → List ℕ → ℕ → RestoreRefusal → Type 0
 PieceCause told f a b old piece limit e = (text more : List ℕ) (before : List Pair) → Took text before old → length (text ++ piece) ≤ LONGEST_TEXT
-    → told → HoldsPairs f a (keys_and_values before) → RestoreCause f b ((text ++ piece) ++ more) limit e
+    → told → (first : List ℕ) → HoldsPairs limit first f a (keys_and_values before) → RestoreCause first f b ((text ++ piece) ++ more) limit e
 
 -- a restore is refused as the text that it is to read
 abbrev pub of_text : Read.ReadRefusal → RestoreRefusal

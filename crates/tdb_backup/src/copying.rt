@@ -1,6 +1,6 @@
 // All pairs of a file are added to another one.
 
-ghost use Rattle.std.specs.Prelude.{◌≡◌, ◌^◌, ◌<◌, ◌≤◌, max, [], List, IsTrue, IfErr, OnOk};
+ghost use Rattle.std.specs.Prelude.{◌≡◌, ◌^◌, ◌<◌, ◌≤◌, max, [], ℕ, List, IsTrue, IfErr, OnOk};
 ghost use Rattle.tdb_disk.specs.Count.{HasCauseOf};
 ghost use Rattle.tdb_space.specs.Frame.{Looked, Wrote};
 ghost use Rattle.tdb_space.specs.Pairs.{order_of};
@@ -29,11 +29,11 @@ pub fn copy_pairs<S: Space, T: Space>(
     requires chains { 0 < (T.form to.old).chains }
     requires limit { limit ≤ 4294963200 }
     ensures copied { OnOk result (IsTrue S.tells → IsTrue T.tells → T.size to.old < 2 ^ 32
-        → (hands : List HandPair) → AcceptWith (S.form from.old) (S.image from.old) hands → HoldsPairs (T.form to.old) (T.image to.old) []
-        → HoldsPairs (T.form to.old) (T.image to.new) (order_of (S.form from.old) (S.image from.old))) }
+        → (hands : List HandPair) → AcceptWith (S.form from.old) (S.image from.old) hands → (first : List ℕ) → HoldsPairs limit first (T.form to.old) (T.image to.old) []
+        → HoldsPairs limit first (T.form to.old) (T.image to.new) (order_of (S.form from.old) (S.image from.old))) }
     ensures refused { IfErr result (λ e. IsTrue S.tells → IsTrue T.tells → T.size to.old < 2 ^ 32
-        → (hands : List HandPair) → AcceptWith (S.form from.old) (S.image from.old) hands → HoldsPairs (T.form to.old) (T.image to.old) []
-        → CopyCause (T.form to.old) (T.image to.new) (order_of (S.form from.old) (S.image from.old)) limit e) }
+        → (hands : List HandPair) → AcceptWith (S.form from.old) (S.image from.old) hands → (first : List ℕ) → HoldsPairs limit first (T.form to.old) (T.image to.old) []
+        → CopyCause first (T.form to.old) (T.image to.new) (order_of (S.form from.old) (S.image from.old)) limit e) }
     ensures within { T.size to.new ≤ max (T.size to.old) limit }
     ensures looked { Looked S.Space from.old from.new }
     ensures wrote { Wrote T.Space to.old to.new }

@@ -7,7 +7,7 @@ ghost use Rattle.tdb_space.specs.NewRecord.{rec_len_for};
 ghost use Rattle.tdb_space.specs.Pairs.{map_of};
 ghost use Rattle.tdb_space.specs.Accepted.{AcceptWith};
 ghost use Rattle.tdb_free.specs.Growth.{grown_length};
-ghost use Rattle.tdb_backup.specs.Filling.{Added, PutFirst, InsertCause};
+ghost use Rattle.tdb_backup.specs.Filling.{Added, Filled, PutFirst, InsertCause};
 ghost use Rattle.tdb_backup.specs.declared.refusal.InsertRefusal.TheVariants.{Io};
 
 use crate::refusal::InsertRefusal;
@@ -37,6 +37,9 @@ pub fn insert_new<S: Space>(
         → map_of (S.form s.old) (S.image s.old) key.now ≡ None → Added (S.form s.old) (S.image s.old) (S.image s.new) key.now value.now) }
     ensures first { OnOk result (IsTrue S.tells → S.size s.old < 2 ^ 32 → AcceptWith (S.form s.old) (S.image s.old) []
         → map_of (S.form s.old) (S.image s.old) key.now ≡ None → PutFirst (S.form s.old) (S.image s.old) (S.image s.new) key.now value.now) }
+    ensures filled { OnOk result (IsTrue S.tells → S.size s.old < 2 ^ 32 → AcceptWith (S.form s.old) (S.image s.old) []
+        → map_of (S.form s.old) (S.image s.old) key.now ≡ None
+        → Filled (S.form s.old) (S.image s.old) (S.image s.new) (rec_len_for (length key.now) (length value.now)) limit) }
     ensures refused { IfErr result (λ e. IsTrue S.tells → S.size s.old < 2 ^ 32 → AcceptWith (S.form s.old) (S.image s.old) []
         → InsertCause (S.form s.old) (S.image s.old) (S.image s.new) (rec_len_for (length key.now) (length value.now)) limit e) }
     ensures size { (S.size s.new ≡ S.size s.old)

@@ -40,12 +40,12 @@ fn add_pairs<T: Space>(to: &mut T, pairs: &[Pair], limit: u64) -> Result<(), Ins
     requires limit { limit ≤ 4294963200 }
     ensures added { OnOk result (IsTrue T.tells → T.size to.old < 2 ^ 32 → (before : List Pair)
         → IsDistinct same_key (keys_of (keys_and_values (before ++ pairs.now)))
-        → HoldsPairs (T.form to.old) (T.image to.old) (keys_and_values before)
-        → HoldsPairs (T.form to.old) (T.image to.new) (keys_and_values (before ++ pairs.now))) }
+        → (first : List ℕ) → HoldsPairs limit first (T.form to.old) (T.image to.old) (keys_and_values before)
+        → HoldsPairs limit first (T.form to.old) (T.image to.new) (keys_and_values (before ++ pairs.now))) }
     ensures refused { IfErr result (λ e. IsTrue T.tells → T.size to.old < 2 ^ 32 → (before : List Pair)
         → IsDistinct same_key (keys_of (keys_and_values (before ++ pairs.now)))
-        → HoldsPairs (T.form to.old) (T.image to.old) (keys_and_values before)
-        → CopyCause (T.form to.old) (T.image to.new) (keys_and_values (before ++ pairs.now)) limit (of_insert e)) }
+        → (first : List ℕ) → HoldsPairs limit first (T.form to.old) (T.image to.old) (keys_and_values before)
+        → CopyCause first (T.form to.old) (T.image to.new) (keys_and_values (before ++ pairs.now)) limit (of_insert e)) }
     ensures within { T.size to.new ≤ max (T.size to.old) limit }
     ensures wrote { Wrote T.Space to.old to.new }
     ensures cause { HasCauseOf InsertIo (T.faults to.old) (T.faults to.new) result }
@@ -67,7 +67,7 @@ fn add_whole<T: Space>(
     requires chains { 0 < (T.form to.old).chains }
     requires limit { limit ≤ 4294963200 }
     ensures added { let told = IsTrue T.tells × (T.size to.old < 2 ^ 32) in let f = T.form to.old in
-        OnOk result (PieceAdded told f (T.image to.old) (T.image to.new) reader.old reader.new piece.now) }
+        OnOk result (PieceAdded limit told f (T.image to.old) (T.image to.new) reader.old reader.new piece.now) }
     ensures refused { let told = IsTrue T.tells × (T.size to.old < 2 ^ 32) in let f = T.form to.old in
         IfErr result (PieceCause told f (T.image to.old) (T.image to.new) reader.old piece.now limit) }
     ensures no_input { IfErr result (λ e. e ≢ Input) }
@@ -91,7 +91,7 @@ fn add_piece<T: Space>(
     requires chains { 0 < (T.form to.old).chains }
     requires limit { limit ≤ 4294963200 }
     ensures added { let told = IsTrue T.tells × (T.size to.old < 2 ^ 32) in let f = T.form to.old in
-        OnOk result (PieceAdded told f (T.image to.old) (T.image to.new) reader.old reader.new piece.now) }
+        OnOk result (PieceAdded limit told f (T.image to.old) (T.image to.new) reader.old reader.new piece.now) }
     ensures refused { let told = IsTrue T.tells × (T.size to.old < 2 ^ 32) in let f = T.form to.old in
         IfErr result (PieceCause told f (T.image to.old) (T.image to.new) reader.old piece.now limit) }
     ensures no_input { IfErr result (λ e. e ≢ Input) }
@@ -118,11 +118,11 @@ fn add_text<S: Source, T: Space>(
     requires limit { limit ≤ 4294963200 }
     ensures read { let told = IsTrue T.tells × (T.size to.old < 2 ^ 32) in let f = T.form to.old in
         let whole = S.left input.old in
-        IfOk result (λ longer. (text : List ℕ) × WentOn told f (T.image to.old) (T.image to.new) [] [] text reader.new
+        IfOk result (λ longer. (text : List ℕ) × WentOn limit told f (T.image to.old) (T.image to.new) [] [] text reader.new
         × (IsTrue S.tells → (text ≡ take LONGEST_TEXT whole) × (IsTrue longer ↔ LONGEST_TEXT < length whole))) }
     ensures refused { let f = T.form to.old in
-        IfErr result (λ e. IsTrue S.tells → IsTrue T.tells → T.size to.old < 2 ^ 32 → HoldsPairs f (T.image to.old) []
-        → RestoreCause f (T.image to.new) (S.left input.old) limit e) }
+        IfErr result (λ e. IsTrue S.tells → IsTrue T.tells → T.size to.old < 2 ^ 32 → (first : List ℕ) → HoldsPairs limit first f (T.image to.old) []
+        → RestoreCause first f (T.image to.new) (S.left input.old) limit e) }
     ensures within { T.size to.new ≤ max (T.size to.old) limit }
     ensures wrote { Wrote T.Space to.old to.new }
     ensures read_cause { HasCauseOf Input (S.faults input.old) (S.faults input.new) result }
@@ -161,11 +161,11 @@ pub fn restore_pairs<S: Source, T: Space>(
     requires chains { 0 < (T.form to.old).chains }
     requires limit { limit ≤ 4294963200 }
     ensures restored { let f = T.form to.old in
-        OnOk result (IsTrue S.tells → IsTrue T.tells → T.size to.old < 2 ^ 32 → HoldsPairs f (T.image to.old) []
-        → Restored f (T.image to.new) (S.left input.old)) }
+        OnOk result (IsTrue S.tells → IsTrue T.tells → T.size to.old < 2 ^ 32 → (first : List ℕ) → HoldsPairs limit first f (T.image to.old) []
+        → Restored limit first f (T.image to.new) (S.left input.old)) }
     ensures refused { let f = T.form to.old in
-        IfErr result (λ e. IsTrue S.tells → IsTrue T.tells → T.size to.old < 2 ^ 32 → HoldsPairs f (T.image to.old) []
-        → RestoreCause f (T.image to.new) (S.left input.old) limit e) }
+        IfErr result (λ e. IsTrue S.tells → IsTrue T.tells → T.size to.old < 2 ^ 32 → (first : List ℕ) → HoldsPairs limit first f (T.image to.old) []
+        → RestoreCause first f (T.image to.new) (S.left input.old) limit e) }
     ensures within { T.size to.new ≤ max (T.size to.old) limit }
     ensures wrote { Wrote T.Space to.old to.new }
     ensures read_cause { HasCauseOf Input (S.faults input.old) (S.faults input.new) result }

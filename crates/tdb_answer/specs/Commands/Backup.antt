@@ -6,7 +6,8 @@ use Rattle.tdb_disk.specs.Stop.{Quiet}
 use Rattle.tdb_space.specs.Form.{form_of}
 use Rattle.tdb_space.specs.Pairs.{order_of, map_of}
 use Rattle.tdb_space.specs.Accepted.{Accept}
-use Rattle.tdb_backup.specs.Building.{CopyCause}
+use Rattle.tdb_backup.specs.Building.{CopyCause, HoldsPairs}
+use Rattle.tdb_answer.specs.Commands.Create.{new_file_of}
 use Rattle.tdb_backup.specs.declared.refusal.CopyRefusal.{CopyRefusal}
 use Rattle.tdb_backup.specs.declared.refusal.CopyRefusal.TheVariants as C
 use Rattle.tdb_answer.specs.declared.ending.Ending.{Ending}
@@ -18,16 +19,19 @@ use Rattle.tdb_cmdline.specs.CopyNames.{copy_name, new_name, IsNameAmong}
 use Rattle.tdb_answer.specs.Commands.Check.{keys_in}
 use Rattle.tdb_open.specs.Opening.{opened_bytes, CanOpen, IsRefused, SameOrUndone, UndoneIfOpen, LookBroken, HeldOrUndone, HeldBroken}
 
--- A file is a copy of an image: it is accepted, has the same form and the same map, and all of it is on the medium.
+-- A file is a copy of an image: it is accepted, has the same form and the same map, and all of it is on the medium. It is
+-- a new file to which the pairs of the image were added in their order.
 pub record IsCopyOf (img : List ℕ) (now : History) : Type 0 where
   pub accepted : Accept (seen now)
   pub form : form_of (seen now) ≡ form_of img
   pub map : (k : List ℕ) → map_of (form_of img) (seen now) k ≡ map_of (form_of img) img k
+  pub built : HoldsPairs LONGEST_FILE (new_file_of (form_of img)) (form_of img) (seen now) (order_of (form_of img) img)
   pub quiet : Quiet now
 
--- why not all pairs of an image came into a new file, whatever that holds then
+-- Why not all pairs of an image came into a new file. Where one finds no room, that is so of the image that is a
+-- new file with those before it.
 abbrev pub IsNotCopied : List ℕ → CopyRefusal → Type 0
-IsNotCopied img refusal = (made : List ℕ) × CopyCause (form_of img) made (order_of (form_of img) img) LONGEST_FILE refusal
+IsNotCopied img refusal = (made : List ℕ) × CopyCause (new_file_of (form_of img)) (form_of img) made (order_of (form_of img) img) LONGEST_FILE refusal
 
 -- the ending of a backup whose copy is refused so
 abbrev pub of_copy : CopyRefusal → Ending
@@ -70,12 +74,13 @@ pub record Stopped (broken : Type 0) (file at_copy at_new : List ℕ) (old now :
 abbrev pub AllStay : Bool → List ℕ → List (List ℕ) → (List ℕ → Option History) → (List ℕ → Option History) → Type 0
 AllStay verify suffix files old now = (name : List ℕ) → IsNameAmong verify suffix files name → now name ≡ old name
 
--- the first of these files were copied, the next one wasn't, and the others weren't looked at
-abbrev pub StoppedAt : Type 0 → List ℕ → List (List ℕ) → (List ℕ → Option History) → (List ℕ → Option History) → Type 0
-StoppedAt broken suffix [] old now = ⊥
-StoppedAt broken suffix (file ∷ files) old now =
-    (Copied file (copy_name suffix file) (new_name suffix file) old now × StoppedAt broken suffix files old now)
-    ⊎ (Stopped broken file (copy_name suffix file) (new_name suffix file) old now × AllStay false suffix files old now)
+-- the first of these files were copied, the next one wasn't, as what was held at its name says, and the others weren't
+-- looked at
+abbrev pub StoppedAt : Type 0 → (List ℕ → Option History → Type 0) → List ℕ → List (List ℕ) → (List ℕ → Option History) → (List ℕ → Option History) → Type 0
+StoppedAt broken why suffix [] old now = ⊥
+StoppedAt broken why suffix (file ∷ files) old now =
+    (Copied file (copy_name suffix file) (new_name suffix file) old now × StoppedAt broken why suffix files old now)
+    ⊎ (Stopped broken file (copy_name suffix file) (new_name suffix file) old now × AllStay false suffix files old now × why file (old file))
 
 -- a file is there, and is opened
 pub record WasOpened (held : Option History) : Type 0 where
@@ -95,6 +100,10 @@ pub record HasNoCopy (img : List ℕ) (e : Ending) : Type 0 where
 abbrev pub EndsAt : List ℕ → Option History → Ending → Type 0
 EndsAt file None e = e ≡ Missing file
 EndsAt file (Some h) e = ((refusal : Refusal) × IsRefused (seen h) refusal × (e ≡ Refused refusal)) ⊎ HasNoCopy (seen h) e
+
+-- why a backup ends so at a file: that isn't copied for this, or a call failed, or memory was wanting, or a log failed
+abbrev pub BackupStops : Ending → List ℕ → Option History → Type 0
+BackupStops e file held = EndsAt file held e ⊎ (e ≡ DeviceFault) ⊎ (e ≡ NoMemory) ⊎ (e ≡ LogFault)
 
 -- How a backup of these files ends, but for those: as the first one that isn't copied says, or all were copied.
 abbrev pub BackupEnds : List (List ℕ) → (List ℕ → Option History) → Ending → Type 0
@@ -122,7 +131,7 @@ EndsBackup (Malformed at) = ⊥
 pub record BackupLeaves (suffix : List ℕ) (files : List (List ℕ)) (old : List ℕ → Option History) (e : Ending) (now : List ℕ → Option History) : Type 0 where
   pub known : EndsBackup e
   pub done : e ≡ Replied Reply.Copied → CopiedAll suffix files old now
-  pub stopped : e ≢ Replied Reply.Copied → StoppedAt (e ≡ DeviceFault) suffix files old now
+  pub stopped : e ≢ Replied Reply.Copied → StoppedAt (e ≡ DeviceFault) (BackupStops e) suffix files old now
 
 -- Why a new file isn't taken in the place of what stood at its name: a call failed, or memory was wanting; where the
 -- files tell nothing, one may be there again.

@@ -1,12 +1,17 @@
 -- The command that makes a file: what making it leaves, and why that ends so.
-use Rattle.std.specs.Prelude.{◌≡◌, ℕ, ◌<◌, ◌≤◌, ◌⊎◌, Option, None, Some, IsSome, []}
+use Rattle.std.specs.Prelude.{◌≡◌, ℕ, ◌<◌, ◌≤◌, ◌⊎◌, List, Option, None, Some, IsSome, []}
 use Rattle.tdb_cmdline.specs.declared.lines.create.NewFile.{NewFile}
 use Rattle.tdb_disk.specs.Count.{Rose}
 use Rattle.tdb_disk.specs.History.{History, seen}
+use Rattle.tdb_space.specs.Form.{Form}
 use Rattle.tdb_open.specs.declared.creating.NewForm.{NewForm}
-use Rattle.tdb_open.specs.Creating.{new_length, IsMade, MadeInPart}
+use Rattle.tdb_open.specs.Creating.{new_image, new_length, IsMade, MadeInPart}
 use Rattle.tdb_answer.specs.declared.commands.create.Creation.{Creation}
 use Rattle.tdb_answer.specs.declared.commands.create.Creation.TheVariants.{Made, There, TooLong, Device, Memory}
+
+-- the bytes of a new file of this form
+abbrev pub new_file_of : Form → List ℕ
+new_file_of f = new_image f.chains f.order f.hash
 
 -- where none was a file was made, and is empty
 abbrev pub LeftEmpty : Option History → Option History → Type 0

@@ -7,6 +7,7 @@ use Rattle.tdb_disk.specs.History.{History, seen}
 use Rattle.tdb_disk.specs.Stop.{Quiet}
 use Rattle.tdb_space.specs.Form.{Form}
 use Rattle.tdb_backup.specs.Restoring.{Restored, RestoreCause}
+use Rattle.tdb_answer.specs.Commands.Create.{new_file_of}
 use Rattle.tdb_backup.specs.declared.refusal.RestoreRefusal.{RestoreRefusal}
 use Rattle.tdb_backup.specs.declared.refusal.RestoreRefusal.TheVariants as R
 use Rattle.tdb_cmdline.specs.declared.limits.TheConstants.{DEFAULT_SIZE}
@@ -20,14 +21,16 @@ abbrev pub new_form : Form
 new_form = record { order = Little; hash = Old; chains = DEFAULT_SIZE }
 
 -- The file holds the pairs of the text, which is dump text and not too long: its bytes are accepted and have the form
--- of a new file, and its map is that of the pairs. All of it is on the medium.
-pub record IsRestored (text : List ℕ) (now : History) : Type 0 where
-  pub restored : Restored new_form (seen now) text
+-- of a new file, its map is that of the pairs, and it is a new file to which they were added in their order, within a
+-- limit. All of it is on the medium.
+pub record IsRestored (limit : ℕ) (text : List ℕ) (now : History) : Type 0 where
+  pub restored : Restored limit (new_file_of new_form) new_form (seen now) text
   pub quiet : Quiet now
 
--- why not all pairs of a text come into a new file that may have so many bytes, whatever it holds then
+-- Why not all pairs of a text come into a new file that may have so many bytes. Where one finds no room, that is so of
+-- the image that is a new file with those before it.
 abbrev pub TextRefused : List ℕ → ℕ → RestoreRefusal → Type 0
-TextRefused text limit refusal = (img : List ℕ) × RestoreCause new_form img text limit refusal
+TextRefused text limit refusal = (img : List ℕ) × RestoreCause (new_file_of new_form) new_form img text limit refusal
 
 -- the ending of a restore that is refused so
 abbrev pub of_restore : RestoreRefusal → Ending
@@ -40,7 +43,7 @@ of_restore R.Memory = NoMemory
 -- How a restore ends over an input, but for a failed call of the files: its text is whole and all pairs came into the
 -- file; or one of the causes why they don't.
 pub data ReadSo (input : Input) (limit : ℕ) : Ending → Type 0 where
-  read_whole : (IsTrue input.tells → (img : List ℕ) × Restored new_form img input.text) → ReadSo input limit (Replied Reply.Restored)
+  read_whole : (IsTrue input.tells → (img : List ℕ) × Restored limit (new_file_of new_form) new_form img input.text) → ReadSo input limit (Replied Reply.Restored)
   read_refused : (refusal : RestoreRefusal) → refusal ≢ R.Io → (IsTrue input.tells → TextRefused input.text limit refusal)
       → (refusal ≡ R.Input → Rose input.faults_before input.faults_after) → ReadSo input limit (of_restore refusal)
 

@@ -7,6 +7,8 @@ ghost use Rattle.tdb_disk.specs.Names.{SameBut};
 ghost use Rattle.tdb_space.specs.Form.{form_of};
 ghost use Rattle.tdb_space.specs.Pairs.{order_of};
 ghost use Rattle.tdb_backup.specs.Building.{HoldsPairs};
+ghost use Rattle.tdb_answer.specs.Commands.Create.{new_file_of};
+ghost use Rattle.tdb_open.specs.declared.limits.TheConstants.{LONGEST_FILE};
 ghost use Rattle.tdb_backup.specs.declared.refusal.CopyRefusal.TheVariants.{Read as ReadFails, Write as WriteFails};
 ghost use Rattle.tdb_answer.specs.declared.ending.Ending.TheVariants.{Replied};
 ghost use Rattle.tdb_answer.specs.declared.ending.Reply.TheVariants.{Copied};
@@ -51,7 +53,7 @@ fn add_all<D: Disk>(
     requires opened { IsTrue D.tells → IsCheckedOn (seen (D.history from.old)) opened.now }
     requires short { IsTrue D.tells → length (seen (D.history from.old)) < 2 ^ 32 }
     requires new { IsTrue D.tells → IsNewFile opened.now.header.hash_size opened.now.header.order opened.now.header.hash (seen (D.history to.old)) }
-    ensures copied { OnOk result (IsTrue D.tells → let img = seen (D.history from.old) in HoldsPairs (form_of img) (seen (D.history to.new)) (order_of (form_of img) img)) }
+    ensures copied { OnOk result (IsTrue D.tells → let img = seen (D.history from.old) in HoldsPairs LONGEST_FILE (new_file_of (form_of img)) (form_of img) (seen (D.history to.new)) (order_of (form_of img) img)) }
     ensures refused { IfErr result (λ e. IsTrue D.tells → IsNotCopied (seen (D.history from.old)) e) }
     ensures kept { D.history from.new ≡ D.history from.old }
     ensures read_cause { HasCauseOf ReadFails (D.faults from.old) (D.faults from.new) result }

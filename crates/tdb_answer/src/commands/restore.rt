@@ -7,6 +7,7 @@ ghost use Rattle.tdb_disk.specs.Names.{SameBut};
 ghost use Rattle.tdb_words.specs.declared.word.Order.TheVariants.{Little};
 ghost use Rattle.tdb_words.specs.declared.hash.HashKind.TheVariants.{Old};
 ghost use Rattle.tdb_backup.specs.Restoring.{Restored};
+ghost use Rattle.tdb_answer.specs.Commands.Create.{new_file_of};
 ghost use Rattle.tdb_backup.specs.declared.refusal.RestoreRefusal.TheVariants.{Input as InputFails, Io as DiskFails};
 ghost use Rattle.tdb_cmdline.specs.declared.ask.Task.TheVariants.{Restore};
 ghost use Rattle.tdb_answer.specs.declared.ending.Ending.TheVariants.{Usage, LogFault};
@@ -66,7 +67,7 @@ fn add_all<S: Source, D: Disk>(
 ) -> Result<(), RestoreRefusal>
     requires limit { limit ≤ 4294963200 }
     requires new { IsTrue D.tells → IsNewFile DEFAULT_SIZE Little Old (seen (D.history disk.old)) }
-    ensures restored { OnOk result (IsTrue S.tells → IsTrue D.tells → Restored new_form (seen (D.history disk.new)) (S.left input.old)) }
+    ensures restored { OnOk result (IsTrue S.tells → IsTrue D.tells → Restored limit (new_file_of new_form) new_form (seen (D.history disk.new)) (S.left input.old)) }
     ensures refused { IfErr result (λ e. IsTrue S.tells → IsTrue D.tells → TextRefused (S.left input.old) limit e) }
     ensures read_cause { HasCauseOf InputFails (S.faults input.old) (S.faults input.new) result }
     ensures write_cause { HasCauseOf DiskFails (D.faults disk.old) (D.faults disk.new) result }
@@ -84,7 +85,7 @@ fn fill<S: Source, D: Disk>(
 ) -> Result<(), RestoreRefusal>
     requires empty { D.size disk.old ≡ 0 }
     requires limit { limit ≤ 4294963200 }
-    ensures restored { OnOk result (IsTrue S.tells → IsTrue D.tells → IsRestored (S.left input.old) (D.history disk.new)) }
+    ensures restored { OnOk result (IsTrue S.tells → IsTrue D.tells → IsRestored limit (S.left input.old) (D.history disk.new)) }
     ensures refused { IfErr result (λ e. IsTrue S.tells → IsTrue D.tells → TextRefused (S.left input.old) limit e) }
     ensures read_cause { HasCauseOf InputFails (S.faults input.old) (S.faults input.new) result }
     ensures write_cause { HasCauseOf DiskFails (D.faults disk.old) (D.faults disk.new) result }
@@ -111,7 +112,7 @@ pub(crate) fn restore_file<F: Files, S: Source>(
     requires limit { limit ≤ 4294963200 }
     requires free { (other : List ℕ) → F.is_taken files.old other ≡ false }
     ensures cause { IsTrue F.D.tells → AskCause (input_by S.tells (S.left input.old) (S.faults input.old) (S.faults input.new)) (Restore limit) name.now (F.held files.old name.now) (F.faults files.old) (F.faults files.new) result }
-    ensures left { IsTrue F.D.tells → RestoreLeaves (input_by S.tells (S.left input.old) (S.faults input.old) (S.faults input.new)) (F.held files.old name.now) result (F.held files.new name.now) }
+    ensures left { IsTrue F.D.tells → RestoreLeaves limit (input_by S.tells (S.left input.old) (S.faults input.old) (S.faults input.new)) (F.held files.old name.now) result (F.held files.new name.now) }
     ensures others { SameBut name.now (F.held files.old) (F.held files.new) }
     ensures given_back { (other : List ℕ) → F.is_taken files.new other ≡ false }
     ensures counted { CountedBy (F.faults files.old) (F.faults files.new) result }

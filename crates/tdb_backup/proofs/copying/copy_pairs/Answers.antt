@@ -8,7 +8,7 @@ use Rattle.tdb_backup.proofs.copying.copy_pairs.Goals as goal
 
 pub loop-traversal-init : goal.loop-traversal-init
 loop-traversal-init g c = record {
-  built = λ told heard small hands A holds. ([], c.new-traversal.ensures (g.S.Space.form c.args.from.now) (g.S.Space.image c.args.from.now), holds);
+  built = λ told heard small hands A first holds. ([], c.new-traversal.ensures (g.S.Space.form c.args.from.now) (g.S.Space.image c.args.from.now), holds);
   within = omega arith;
   looked = search rules;
   wrote = search rules;
@@ -18,12 +18,12 @@ loop-traversal-init g c = record {
 
 pub loop-traversal-preserved : goal.loop-traversal-preserved
 loop-traversal-preserved g c = record {
-  built = λ told heard small hands A holds.
+  built = λ told heard small hands A first holds.
       (let looked = c.loop-traversal.invariant.looked in
-      built_more (g.S.Space.form c.args.from.now) (g.S.Space.form c.loop-traversal.from) (g.S.Space.image c.args.from.now) (g.S.Space.image c.loop-traversal.from) hands
+      built_more c.args.limit first (g.S.Space.form c.args.from.now) (g.S.Space.form c.loop-traversal.from) (g.S.Space.image c.args.from.now) (g.S.Space.image c.loop-traversal.from) hands
       (g.T.Space.form c.args.to.now) (g.T.Space.form c.loop-traversal.to) (g.T.Space.image c.loop-traversal.to) (g.T.Space.image c.insert_new.new.s) c.loop-traversal.traversal c.advance.new.self c.in_ok-advance.field-0
-      looked.form looked.image c.loop-traversal.invariant.wrote.form A (c.loop-traversal.invariant.built told heard small hands A holds) (c.in_ok-advance.ensures.gave told)
-      c.if-branch.true c.key.result.now c.value.result.now c.key.ensures c.value.ensures (c.in_ok-insert_new.ensures.added heard (within_short (g.T.Space.size c.args.to.now) (g.T.Space.size c.loop-traversal.to) c.args.limit c.requires.limit c.loop-traversal.invariant.within small)));
+      looked.form looked.image c.loop-traversal.invariant.wrote.form A (c.loop-traversal.invariant.built told heard small hands A first holds) (c.in_ok-advance.ensures.gave told)
+      c.if-branch.true c.key.result.now c.value.result.now c.key.ensures c.value.ensures (c.in_ok-insert_new.ensures.added heard (within_short (g.T.Space.size c.args.to.now) (g.T.Space.size c.loop-traversal.to) c.args.limit c.requires.limit c.loop-traversal.invariant.within small)) (c.in_ok-insert_new.ensures.filled heard (within_short (g.T.Space.size c.args.to.now) (g.T.Space.size c.loop-traversal.to) c.args.limit c.requires.limit c.loop-traversal.invariant.within small)));
   within =
       stays_within (g.T.Space.size c.args.to.now) (g.T.Space.size c.loop-traversal.to) (24 + rec_len_for (length c.key.result.now) (length c.value.result.now)) c.args.limit (g.T.Space.size c.insert_new.new.s) c.loop-traversal.invariant.within c.insert_new.ensures.size;
   looked = search rules;
@@ -36,26 +36,26 @@ pub returns-in_err-advance-clause-refused : goal.returns-in_err-advance-clause-r
 returns-in_err-advance-clause-refused g c =
     let p = err_from_is_err_and c.from_residual.result c.from_residual.ensures.1 in
     rw (p.1, p.2)
-    (λ told heard small hands A holds.
-    built_unread (g.S.Space.form c.args.from.now) (g.T.Space.form c.args.to.now) (g.S.Space.image c.args.from.now) (g.T.Space.image c.loop-traversal.to) c.loop-traversal.traversal (c.loop-traversal.invariant.built told heard small hands A holds) c.args.limit c.in_err-advance.field-0.0)
+    (λ told heard small hands A first holds.
+    built_unread c.args.limit first (g.S.Space.form c.args.from.now) (g.T.Space.form c.args.to.now) (g.S.Space.image c.args.from.now) (g.T.Space.image c.loop-traversal.to) c.loop-traversal.traversal (c.loop-traversal.invariant.built told heard small hands A first holds) c.in_err-advance.field-0.0)
 
 pub returns-in_err-insert_new-clause-refused : goal.returns-in_err-insert_new-clause-refused
 returns-in_err-insert_new-clause-refused g c =
     let p = err_from_is_err_and c.from_residual-in_err-insert_new.result c.from_residual-in_err-insert_new.ensures.1 in
     let looked = c.loop-traversal.invariant.looked in
     rw (p.1, p.2)
-    (λ told heard small hands A holds.
-    built_refused (g.S.Space.form c.args.from.now) (g.S.Space.form c.loop-traversal.from) (g.S.Space.image c.args.from.now) (g.S.Space.image c.loop-traversal.from) hands
+    (λ told heard small hands A first holds.
+    built_refused c.args.limit first (g.S.Space.form c.args.from.now) (g.S.Space.form c.loop-traversal.from) (g.S.Space.image c.args.from.now) (g.S.Space.image c.loop-traversal.from) hands
     (g.T.Space.form c.args.to.now) (g.T.Space.form c.loop-traversal.to) (g.T.Space.image c.loop-traversal.to) (g.T.Space.image c.insert_new.new.s) c.loop-traversal.traversal c.advance.new.self c.in_ok-advance.field-0
-    looked.form looked.image c.loop-traversal.invariant.wrote.form A (c.loop-traversal.invariant.built told heard small hands A holds) (c.in_ok-advance.ensures.gave told)
-    c.if-branch.true c.key.result.now c.value.result.now c.key.ensures c.value.ensures c.args.limit c.in_err-insert_new.field-0.0 (c.in_err-insert_new.ensures.refused heard (within_short (g.T.Space.size c.args.to.now) (g.T.Space.size c.loop-traversal.to) c.args.limit c.requires.limit c.loop-traversal.invariant.within small)))
+    looked.form looked.image c.loop-traversal.invariant.wrote.form A (c.loop-traversal.invariant.built told heard small hands A first holds) (c.in_ok-advance.ensures.gave told)
+    c.if-branch.true c.key.result.now c.value.result.now c.key.ensures c.value.ensures c.in_err-insert_new.field-0.0 (c.in_err-insert_new.ensures.refused heard (within_short (g.T.Space.size c.args.to.now) (g.T.Space.size c.loop-traversal.to) c.args.limit c.requires.limit c.loop-traversal.invariant.within small)))
 
 pub returns-clause-copied : goal.returns-clause-copied
-returns-clause-copied g c told heard small hands A holds =
+returns-clause-copied g c told heard small hands A first holds =
     let looked = c.loop-traversal.invariant.looked in
-    built_all (g.S.Space.form c.args.from.now) (g.S.Space.form c.loop-traversal.from) (g.S.Space.image c.args.from.now) (g.S.Space.image c.loop-traversal.from) hands
+    built_all c.args.limit first (g.S.Space.form c.args.from.now) (g.S.Space.form c.loop-traversal.from) (g.S.Space.image c.args.from.now) (g.S.Space.image c.loop-traversal.from) hands
     (g.T.Space.form c.args.to.now) (g.T.Space.form c.loop-traversal.to) (g.T.Space.image c.loop-traversal.to) (g.T.Space.image c.loop-traversal.to) c.loop-traversal.traversal c.advance.new.self c.in_ok-advance.field-0
-    looked.form looked.image c.loop-traversal.invariant.wrote.form A (c.loop-traversal.invariant.built told heard small hands A holds) (c.in_ok-advance.ensures.gave told) c.if-branch.false
+    looked.form looked.image c.loop-traversal.invariant.wrote.form A (c.loop-traversal.invariant.built told heard small hands A first holds) (c.in_ok-advance.ensures.gave told) c.if-branch.false
 
 pub returns-in_err-insert_new-clause-within : goal.returns-in_err-insert_new-clause-within
 returns-in_err-insert_new-clause-within g c =

@@ -11,8 +11,8 @@ use Rattle.tdb_backup.proofs.copying.copy_pairs.Given as goal
 abbrev pub invariant-loop-traversal : goal.invariant-loop-traversal
 invariant-loop-traversal g l = record {
   built : IsTrue g.S.Space.tells → IsTrue g.T.Space.tells → g.T.Space.size l.fn.to < 2 ^ 32 → (hands : List HandPair) → AcceptWith (g.S.Space.form l.fn.from) (g.S.Space.image l.fn.from) hands
-      → HoldsPairs (g.T.Space.form l.fn.to) (g.T.Space.image l.fn.to) []
-      → (given : List (List ℕ × List ℕ)) × Gave (g.S.Space.form l.fn.from) (g.S.Space.image l.fn.from) given l.traversal × HoldsPairs (g.T.Space.form l.fn.to) (g.T.Space.image l.to) given;
+      → (first : List ℕ) → HoldsPairs l.limit first (g.T.Space.form l.fn.to) (g.T.Space.image l.fn.to) []
+      → (given : List (List ℕ × List ℕ)) × Gave (g.S.Space.form l.fn.from) (g.S.Space.image l.fn.from) given l.traversal × HoldsPairs l.limit first (g.T.Space.form l.fn.to) (g.T.Space.image l.to) given;
   within : g.T.Space.size l.to ≤ max (g.T.Space.size l.fn.to) l.limit;
   looked : Looked g.S.Space l.fn.from l.from;
   wrote : Wrote g.T.Space l.fn.to l.to;

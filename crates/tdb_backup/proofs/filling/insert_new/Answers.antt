@@ -1,5 +1,5 @@
 -- The record was taken and linked, or it wasn't taken.
-use Rattle.std.proofs.Common.{◌+◌, ◌<◌, ◌^◌, [], ℕ, List, length, sym, ◌∙◌, subst, arith}
+use Rattle.std.proofs.Common.{◌≡◌, ◌+◌, ◌<◌, ◌^◌, [], ℕ, List, Some, length, sym, ◌∙◌, subst, arith}
 use Rattle.std.proofs.lemmas.Result.{err_from_is_err_and}
 use Rattle.tdb_space.specs.Chain.{free_of}
 use Rattle.tdb_space.specs.NewRecord.{rec_len_for}
@@ -8,6 +8,8 @@ use Rattle.tdb_free.proofs.Traded.{can_take}
 use Rattle.tdb_backup.proofs.Walk.{moved}
 use Rattle.tdb_backup.proofs.Inserting.{stays_short, inserted, refused}
 use Rattle.tdb_backup.proofs.Prepending.{put_first_there}
+use Rattle.tdb_backup.specs.Filling.{Filled}
+use Rattle.tdb_backup.proofs.Rooms.{filled}
 use Rattle.tdb_backup.proofs.filling.insert_new.Goals as goal
 
 pub returns-in_err-hand-clause-refused : goal.returns-in_err-hand-clause-refused
@@ -72,3 +74,37 @@ returns-in_default-clause-first g c told small A none =
     put_first_there f k l a v (g.S.Space.image c.take.new.s) (g.S.Space.image c.link.new.s) c.args.key.now c.args.value.now c.rec_len_for-rec_len.result c.args.limit c.in_ok-hand.hand c.in_ok-old.field-0 A short
     (omega (arith, c.rec_len_for-rec_len.ensures)) (omega (arith, c.rec_len_for-rec_len.ensures)) c.requires.limit none c.ready.ensures.form c.ready.ensures.image (c.take.ensures.wrote.form ∙ c.ready.ensures.form)
     (c.in_ok-hand.ensures.kept told before) (c.in_ok-hand.ensures.taken told) (c.in_ok-old.ensures.set told after) (c.in_ok-old.ensures.back told after) (c.link.ensures.written told)
+
+pub returns-in-Some-clause-filled : goal.returns-in-Some-clause-filled
+returns-in-Some-clause-filled g c told small A none =
+    let f = g.S.Space.form c.args.s.now in
+    let k = g.S.Space.form c.ready.new.self in
+    let l = g.S.Space.form c.take.new.s in
+    let a = g.S.Space.image c.args.s.now in
+    let v = g.S.Space.image c.ready.new.self in
+    let b = g.S.Space.image c.take.new.s in
+    let d = g.S.Space.image c.link.new.s in
+    let before : g.S.Space.size c.ready.new.self < 2 ^ 32 = omega (arith, c.ready.ensures.size, small) in
+    let after : g.S.Space.size c.take.new.s < 2 ^ 32 = stays_short (g.S.Space.size c.ready.new.self) (g.S.Space.size c.ready.new.self) (24 + c.rec_len_for-rec_len.result) c.args.limit (g.S.Space.size c.take.new.s) before c.requires.limit c.take.ensures.size in
+    let short : length a < 2 ^ 32 = omega (arith, g.met.S.Space.told_size c.args.s.now told, small) in
+    subst (λ n. Filled f a d n c.args.limit) c.rec_len_for-rec_len.ensures
+    (filled f k l a v b d c.args.key.now c.args.value.now c.rec_len_for-rec_len.result c.args.limit c.in_ok-hand.hand c.in_ok-old.field-0 A short
+    (omega (arith, c.rec_len_for-rec_len.ensures)) (omega (arith, c.rec_len_for-rec_len.ensures)) c.requires.limit none c.ready.ensures.form c.ready.ensures.image (c.take.ensures.wrote.form ∙ c.ready.ensures.form)
+    (c.in_ok-hand.ensures.kept told before) (c.in_ok-hand.ensures.taken told) (c.take.ensures.only told) (c.in_ok-old.ensures.set told after) (c.link.ensures.written told))
+
+pub returns-in_default-clause-filled : goal.returns-in_default-clause-filled
+returns-in_default-clause-filled g c told small A none =
+    let f = g.S.Space.form c.args.s.now in
+    let k = g.S.Space.form c.ready.new.self in
+    let l = g.S.Space.form c.take.new.s in
+    let a = g.S.Space.image c.args.s.now in
+    let v = g.S.Space.image c.ready.new.self in
+    let b = g.S.Space.image c.take.new.s in
+    let d = g.S.Space.image c.link.new.s in
+    let before : g.S.Space.size c.ready.new.self < 2 ^ 32 = omega (arith, c.ready.ensures.size, small) in
+    let after : g.S.Space.size c.take.new.s < 2 ^ 32 = stays_short (g.S.Space.size c.ready.new.self) (g.S.Space.size c.ready.new.self) (24 + c.rec_len_for-rec_len.result) c.args.limit (g.S.Space.size c.take.new.s) before c.requires.limit c.take.ensures.size in
+    let short : length a < 2 ^ 32 = omega (arith, g.met.S.Space.told_size c.args.s.now told, small) in
+    subst (λ n. Filled f a d n c.args.limit) c.rec_len_for-rec_len.ensures
+    (filled f k l a v b d c.args.key.now c.args.value.now c.rec_len_for-rec_len.result c.args.limit c.in_ok-hand.hand c.in_ok-old.field-0 A short
+    (omega (arith, c.rec_len_for-rec_len.ensures)) (omega (arith, c.rec_len_for-rec_len.ensures)) c.requires.limit none c.ready.ensures.form c.ready.ensures.image (c.take.ensures.wrote.form ∙ c.ready.ensures.form)
+    (c.in_ok-hand.ensures.kept told before) (c.in_ok-hand.ensures.taken told) (c.take.ensures.only told) (c.in_ok-old.ensures.set told after) (c.link.ensures.written told))

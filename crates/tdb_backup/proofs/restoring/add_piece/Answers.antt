@@ -25,14 +25,14 @@ returns-clause-added g c = on_ok_weaker c.add_whole-2.result
     let told = IsTrue g.T.Space.tells × (g.T.Space.size c.args.to.now < 2 ^ 32) in
     let still = IsTrue g.T.Space.tells × (g.T.Space.size c.add_whole.new.to < 2 ^ 32) in
     let w = c.in_ok-add_whole.ensures.added text before took in
-    subst (λ t. WentOn told f a d text before t c.add_whole-2.new.reader) (append-nil c.args.piece.now)
-    (went_on told still f (g.T.Space.form c.add_whole.new.to) a b d text before c.args.piece.now [] c.add_whole.new.reader c.add_whole-2.new.reader c.add_whole.ensures.wrote.form
+    subst (λ t. WentOn c.args.limit told f a d text before t c.add_whole-2.new.reader) (append-nil c.args.piece.now)
+    (went_on c.args.limit told still f (g.T.Space.form c.add_whole.new.to) a b d text before c.args.piece.now [] c.add_whole.new.reader c.add_whole-2.new.reader c.add_whole.ensures.wrote.form
     (λ t. (t.0, within_short (g.T.Space.size c.args.to.now) (g.T.Space.size c.add_whole.new.to) c.args.limit c.requires.limit c.add_whole.ensures.within t.1)) w (later (text ++ c.args.piece.now) (before ++ w.pairs) w.took))))
     c.add_whole-2.ensures.added
 
 pub returns-clause-refused : goal.returns-clause-refused
 returns-clause-refused g c = IfErr-weaker c.add_whole-2.result _ _
-    (λ e later text more before took low told holds.
+    (λ e later text more before took low told first holds.
     (let f = g.T.Space.form c.args.to.now in
     let k = g.T.Space.form c.add_whole.new.to in
     let b = g.T.Space.image c.add_whole.new.to in
@@ -40,7 +40,7 @@ returns-clause-refused g c = IfErr-weaker c.add_whole-2.result _ _
     let same = c.add_whole.ensures.wrote.form in
     let so_far = text ++ c.args.piece.now in
     let w = c.in_ok-add_whole.ensures.added text before took in
-    let there = subst (λ x. HoldsPairs x b (keys_and_values (before ++ w.pairs))) (sym same) (w.holds told holds) in
-    let cause = later so_far more (before ++ w.pairs) w.took (subst (λ t. length t ≤ LONGEST_TEXT) (sym (append-nil so_far)) low) (told.0, within_short (g.T.Space.size c.args.to.now) (g.T.Space.size c.add_whole.new.to) c.args.limit c.requires.limit c.add_whole.ensures.within told.1) there in
-    subst (λ t. RestoreCause f d (t ++ more) c.args.limit e) (append-nil so_far) (subst (λ x. RestoreCause x d ((so_far ++ []) ++ more) c.args.limit e) same cause)))
+    let there = subst (λ x. HoldsPairs c.args.limit first x b (keys_and_values (before ++ w.pairs))) (sym same) (w.holds told first holds) in
+    let cause = later so_far more (before ++ w.pairs) w.took (subst (λ t. length t ≤ LONGEST_TEXT) (sym (append-nil so_far)) low) (told.0, within_short (g.T.Space.size c.args.to.now) (g.T.Space.size c.add_whole.new.to) c.args.limit c.requires.limit c.add_whole.ensures.within told.1) first there in
+    subst (λ t. RestoreCause first f d (t ++ more) c.args.limit e) (append-nil so_far) (subst (λ x. RestoreCause first x d ((so_far ++ []) ++ more) c.args.limit e) same cause)))
     c.add_whole-2.ensures.refused

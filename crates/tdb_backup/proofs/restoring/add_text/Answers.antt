@@ -14,11 +14,11 @@ pub returns-in_err-count-clause-refused : goal.returns-in_err-count-clause-refus
 returns-in_err-count-clause-refused g c =
     let q = err_from_is_err_and c.from_residual.result c.from_residual.ensures.1 in
     rw (q.1, q.2)
-    (λ heard told small holds.
+    (λ heard told small first holds.
     (let (text, w, count, front) = c.loop-left.invariant.taken in
     let f = g.T.Space.form c.args.to.now in
     let b = g.T.Space.image c.loop-left.to in
-    subst (HoldsSome f b) (sym (front heard)) (holds_given f b text (g.S.Source.left c.loop-left.input) w.pairs w.took.begins (w.holds (told, small) holds))))
+    subst (HoldsSome c.args.limit first f b) (sym (front heard)) (holds_given c.args.limit first f b text (g.S.Source.left c.loop-left.input) w.pairs w.took.begins (w.holds (told, small) first holds))))
 
 pub returns-then-count-eq0-clause-read : goal.returns-then-count-eq0-clause-read
 returns-then-count-eq0-clause-read g c =
@@ -34,7 +34,7 @@ pub returns-in_err-add_piece-clause-refused : goal.returns-in_err-add_piece-clau
 returns-in_err-add_piece-clause-refused g c =
     let q = err_from_is_err_and c.from_residual-in_err-add_piece.result c.from_residual-in_err-add_piece.ensures.1 in
     rw (q.1, q.2)
-    (λ heard told small holds.
+    (λ heard told small first holds.
     (let (text, w, count, front) = c.loop-left.invariant.taken in
     let v = c.loop-left.invariant in
     let f = g.T.Space.form c.args.to.now in
@@ -48,10 +48,10 @@ returns-in_err-add_piece-clause-refused g c =
     let within : n ≤ length buf = omega (arith, c.in_ok-count.ensures.within, c.read.auto.buf) in
     let few : n ≤ c.loop-left.left = omega (arith, c.in_ok-count.ensures.within, length-take c.min-room.result c.loop-left.piece, c.min-room.ensures) in
     let low : length (text ++ take n (buf ++ behind)) ≤ LONGEST_TEXT = omega (arith, longer_by text buf behind n within, few, count) in
-    let there = subst (λ x. HoldsPairs x a (keys_and_values w.pairs)) (sym v.wrote.form) (w.holds (told, small) holds) in
-    let cause = c.in_err-add_piece.ensures.refused text now w.pairs w.took low (told, within_short (g.T.Space.size c.args.to.now) (g.T.Space.size c.loop-left.to) c.args.limit c.requires.limit v.within small) there in
+    let there = subst (λ x. HoldsPairs c.args.limit first x a (keys_and_values w.pairs)) (sym v.wrote.form) (w.holds (told, small) first holds) in
+    let cause = c.in_err-add_piece.ensures.refused text now w.pairs w.took low (told, within_short (g.T.Space.size c.args.to.now) (g.T.Space.size c.loop-left.to) c.args.limit c.requires.limit v.within small) first there in
     let whole = read_on text (g.S.Source.left c.loop-left.input) (g.S.Source.left c.args.input.now) buf behind now n (front heard) within (c.in_ok-count.ensures.bytes heard) in
-    subst (λ t. RestoreCause f b t c.args.limit c.in_err-add_piece.field-0.0) (sym whole) (subst (λ x. RestoreCause x b ((text ++ take n (buf ++ behind)) ++ now) c.args.limit c.in_err-add_piece.field-0.0) v.wrote.form cause)))
+    subst (λ t. RestoreCause first f b t c.args.limit c.in_err-add_piece.field-0.0) (sym whole) (subst (λ x. RestoreCause first x b ((text ++ take n (buf ++ behind)) ++ now) c.args.limit c.in_err-add_piece.field-0.0) v.wrote.form cause)))
 
 pub loop-left-preserved : goal.loop-left-preserved
 loop-left-preserved g c =
@@ -67,7 +67,7 @@ loop-left-preserved g c =
     record {
       taken = (
         text ++ take n (buf ++ behind),
-        went_on told still (g.T.Space.form c.args.to.now) (g.T.Space.form c.loop-left.to) (g.T.Space.image c.args.to.now) (g.T.Space.image c.loop-left.to) (g.T.Space.image c.add_piece.new.to) [] [] text (take n (buf ++ behind)) c.loop-left.reader c.add_piece.new.reader
+        went_on c.args.limit told still (g.T.Space.form c.args.to.now) (g.T.Space.form c.loop-left.to) (g.T.Space.image c.args.to.now) (g.T.Space.image c.loop-left.to) (g.T.Space.image c.add_piece.new.to) [] [] text (take n (buf ++ behind)) c.loop-left.reader c.add_piece.new.reader
             v.wrote.form (λ t. (t.0, within_short (g.T.Space.size c.args.to.now) (g.T.Space.size c.loop-left.to) c.args.limit c.requires.limit v.within t.1)) w (c.in_ok-add_piece.ensures.added text w.pairs w.took),
         omega (arith, longer_by text buf behind n within, few, count),
         λ heard. read_on text (g.S.Source.left c.loop-left.input) (g.S.Source.left c.args.input.now) buf behind (g.S.Source.left c.read.new.self) n (front heard) within (c.in_ok-count.ensures.bytes heard),
@@ -83,11 +83,11 @@ pub returns-in_err-read-clause-refused : goal.returns-in_err-read-clause-refused
 returns-in_err-read-clause-refused g c =
     let q = err_from_is_err_and c.from_residual-in_err-read.result c.from_residual-in_err-read.ensures.1 in
     rw (q.1, q.2)
-    (λ heard told small holds.
+    (λ heard told small first holds.
     (let (text, w, count, front) = c.loop-left.invariant.taken in
     let f = g.T.Space.form c.args.to.now in
     let b = g.T.Space.image c.loop-left.to in
-    subst (HoldsSome f b) (sym (front heard)) (holds_given f b text (g.S.Source.left c.loop-left.input) w.pairs w.took.begins (w.holds (told, small) holds))))
+    subst (HoldsSome c.args.limit first f b) (sym (front heard)) (holds_given c.args.limit first f b text (g.S.Source.left c.loop-left.input) w.pairs w.took.begins (w.holds (told, small) first holds))))
 
 pub returns-clause-read : goal.returns-clause-read
 returns-clause-read g c =

@@ -8,7 +8,7 @@ use Rattle.tdb_backup.proofs.restoring.add_text.Given as goal
 
 abbrev pub invariant-loop-left : goal.invariant-loop-left
 invariant-loop-left g l = record {
-  taken : (text : List ℕ) × WentOn (IsTrue g.T.Space.tells × (g.T.Space.size l.fn.to < 2 ^ 32)) (g.T.Space.form l.fn.to) (g.T.Space.image l.fn.to) (g.T.Space.image l.to) [] [] text l.reader
+  taken : (text : List ℕ) × WentOn l.limit (IsTrue g.T.Space.tells × (g.T.Space.size l.fn.to < 2 ^ 32)) (g.T.Space.form l.fn.to) (g.T.Space.image l.fn.to) (g.T.Space.image l.to) [] [] text l.reader
       × (length text + l.left ≡ LONGEST_TEXT) × (IsTrue g.S.Source.tells → g.S.Source.left l.fn.input ≡ text ++ g.S.Source.left l.input);
   room : 0 < length l.piece;
   within : g.T.Space.size l.to ≤ max (g.T.Space.size l.fn.to) l.limit;

@@ -13,8 +13,8 @@ pub returns-in_err-feed-clause-refused : goal.returns-in_err-feed-clause-refused
 returns-in_err-feed-clause-refused g c =
     let q = err_from_is_err_and c.from_residual.result c.from_residual.ensures.1 in
     rw (q.1, q.2)
-    (λ text more before took low told holds.
-    text_refused (g.T.Space.form c.args.to.now) (g.T.Space.image c.args.to.now) (text ++ c.args.piece.now) more before c.args.limit c.in_err-feed.field-0.0
+    (λ text more before took low told first holds.
+    text_refused first (g.T.Space.form c.args.to.now) (g.T.Space.image c.args.to.now) (text ++ c.args.piece.now) more before c.args.limit c.in_err-feed.field-0.0
     (λ at is. c.in_err-feed.ensures.malformed text before at took (ap Err is)) (begun_more text c.args.piece.now before took.begins) low holds)
 
 pub add_pairs-requires-clause-short : goal.add_pairs-requires-clause-short
@@ -33,12 +33,12 @@ returns-in_err-add_pairs-clause-refused g c =
     let e = c.in_err-add_pairs.field-0.0 in
     let same = c.deref.ensures.value ∙ c.into_vec-pairs.ensures in
     rw (q.1, q.2)
-    (λ text more before took low told holds.
+    (λ text more before took low told first holds.
     (let so_far = text ++ c.args.piece.now in
     let given = c.in_ok-feed.ensures.given text before took in
     let distinct = subst (λ ps. IsDistinct same_key (keys_of (keys_and_values (before ++ ps)))) (sym same) (begun_distinct so_far (before ++ pairs) given.begins) in
-    pair_refused f b (so_far ++ more) (before ++ pairs) c.args.limit e (begun_more so_far more (before ++ pairs) given.begins)
-    (subst (λ ps. CopyCause f b (keys_and_values (before ++ ps)) c.args.limit (of_insert e)) same (c.in_err-add_pairs.ensures.refused told.0 told.1 before distinct holds))))
+    pair_refused first f b (so_far ++ more) (before ++ pairs) c.args.limit e (begun_more so_far more (before ++ pairs) given.begins)
+    (subst (λ ps. CopyCause first f b (keys_and_values (before ++ ps)) c.args.limit (of_insert e)) same (c.in_err-add_pairs.ensures.refused told.0 told.1 before distinct first holds))))
 
 pub returns-clause-added : goal.returns-clause-added
 returns-clause-added g c text before took =
@@ -49,6 +49,6 @@ returns-clause-added g c text before took =
     record {
       pairs = pairs;
       took = given;
-      holds = λ told holds.
-          subst (λ ps. HoldsPairs (g.T.Space.form c.args.to.now) (g.T.Space.image c.add_pairs.new.to) (keys_and_values (before ++ ps))) same (c.in_ok-add_pairs.ensures.added told.0 told.1 before distinct holds);
+      holds = λ told first holds.
+          subst (λ ps. HoldsPairs c.args.limit first (g.T.Space.form c.args.to.now) (g.T.Space.image c.add_pairs.new.to) (keys_and_values (before ++ ps))) same (c.in_ok-add_pairs.ensures.added told.0 told.1 before distinct first holds);
     }

@@ -15,9 +15,9 @@ returns-in_err-end-clause-refused g c =
     let q = err_from_is_err_and c.from_residual-in_err-end.result c.from_residual-in_err-end.ensures.1 in
     let (text, w, read) = c.in_ok-longer.ensures.read in
     rw (q.1, q.2)
-    (λ heard told small holds.
-    end_refused (g.T.Space.form c.args.to.now) (g.T.Space.image c.add_text.new.to) text (g.S.Source.left c.args.input.now) w.pairs c.args.limit c.in_err-end.field-0.0
-    (read heard).0 (λ at is. c.in_err-end.ensures.malformed text w.pairs at w.took (ap Err is)) w.took.begins (w.holds (told, small) holds))
+    (λ heard told small first holds.
+    end_refused first (g.T.Space.form c.args.to.now) (g.T.Space.image c.add_text.new.to) text (g.S.Source.left c.args.input.now) w.pairs c.args.limit c.in_err-end.field-0.0
+    (read heard).0 (λ at is. c.in_err-end.ensures.malformed text w.pairs at w.took (ap Err is)) w.took.begins (w.holds (told, small) first holds))
 
 pub returns-in_err-end-clause-read_cause : goal.returns-in_err-end-clause-read_cause
 returns-in_err-end-clause-read_cause g c =
@@ -42,14 +42,14 @@ returns-in_err-end-clause-write_cause g c =
     })
 
 pub returns-then-longer-clause-refused : goal.returns-then-longer-clause-refused
-returns-then-longer-clause-refused g c heard told small holds =
+returns-then-longer-clause-refused g c heard told small first holds =
     let (text, w, read) = c.in_ok-longer.ensures.read in
-    stops_at_most (g.T.Space.form c.args.to.now) (g.T.Space.image c.add_text.new.to) text (g.S.Source.left c.args.input.now) w.pairs c.args.limit
-    (read heard).0 ((read heard).1.0 c.if-longer.true) (c.in_ok-end.ensures.whole text w.pairs w.took) (w.holds (told, small) holds)
+    stops_at_most first (g.T.Space.form c.args.to.now) (g.T.Space.image c.add_text.new.to) text (g.S.Source.left c.args.input.now) w.pairs c.args.limit
+    (read heard).0 ((read heard).1.0 c.if-longer.true) (c.in_ok-end.ensures.whole text w.pairs w.took) (w.holds (told, small) first holds)
 
 pub returns-clause-restored : goal.returns-clause-restored
-returns-clause-restored g c heard told small holds =
+returns-clause-restored g c heard told small first holds =
     let (text, w, read) = c.in_ok-longer.ensures.read in
     let whole = g.S.Source.left c.args.input.now in
-    restored_whole (g.T.Space.form c.args.to.now) (g.T.Space.image c.add_text.new.to) text whole w.pairs
-    (read heard).0 (short_enough whole c.in_ok-longer.longer c.if-longer.false (read heard).1.1) (c.in_ok-end.ensures.whole text w.pairs w.took) (w.holds (told, small) holds)
+    restored_whole c.args.limit first (g.T.Space.form c.args.to.now) (g.T.Space.image c.add_text.new.to) text whole w.pairs
+    (read heard).0 (short_enough whole c.in_ok-longer.longer c.if-longer.false (read heard).1.1) (c.in_ok-end.ensures.whole text w.pairs w.took) (w.holds (told, small) first holds)

@@ -4,6 +4,8 @@ use Rattle.tdb_disk.specs.History.{seen}
 use Rattle.tdb_space.specs.Form.{form_of}
 use Rattle.tdb_space.specs.Pairs.{order_of}
 use Rattle.tdb_backup.specs.Building.{HoldsPairs}
+use Rattle.tdb_answer.specs.Commands.Create.{new_file_of}
+use Rattle.tdb_open.specs.declared.limits.TheConstants.{LONGEST_FILE}
 use Rattle.tdb_answer.specs.Commands.Backup.{IsNotCopied}
 use Rattle.tdb_open.specs.Creating.{IsNewFile}
 use Rattle.tdb_open.specs.Opening.{IsCheckedOn}
@@ -29,10 +31,10 @@ returns-clause-copied g c = on_ok_weaker c.copy_pairs.result (λ done told.
     let made = seen (g.D.Disk.history c.copy_pairs.new.to.disk.now) in
     let holds = as_copied img fresh o hs hc as_s as_c checked made
     (done told told (fresh_short img fresh o hs hc as_s as_c checked file (g.D.Disk.size to) short (g.met.D.Disk.told_size to told)) []
-    (source_accepted img fresh o hs hc as_s as_c checked) (fresh_holds img fresh o hs hc as_s as_c checked file)) in
+    (source_accepted img fresh o hs hc as_s as_c checked) (new_file_of (form_of img)) (fresh_holds img fresh o hs hc as_s as_c checked file)) in
     let img_now = seen (g.D.Disk.history c.args.from.now) in
-    subst (λ d. HoldsPairs (form_of img_now) (seen (g.D.Disk.history d)) (order_of (form_of img_now) img_now)) (sym (c.to-1.given.1 (sym c.new-copy.ensures.same_reference ∙ sym kept)))
-    (subst (λ x. HoldsPairs (form_of (seen (g.D.Disk.history x))) made (order_of (form_of (seen (g.D.Disk.history x))) (seen (g.D.Disk.history x)))) c.new-source.ensures.disk holds)))
+    subst (λ d. HoldsPairs LONGEST_FILE (new_file_of (form_of img_now)) (form_of img_now) (seen (g.D.Disk.history d)) (order_of (form_of img_now) img_now)) (sym (c.to-1.given.1 (sym c.new-copy.ensures.same_reference ∙ sym kept)))
+    (subst (λ x. HoldsPairs LONGEST_FILE (new_file_of (form_of (seen (g.D.Disk.history x)))) (form_of (seen (g.D.Disk.history x))) made (order_of (form_of (seen (g.D.Disk.history x))) (seen (g.D.Disk.history x)))) c.new-source.ensures.disk holds)))
     c.copy_pairs.ensures.copied
 
 pub returns-clause-refused : goal.returns-clause-refused
@@ -53,5 +55,5 @@ returns-clause-refused g c = IfErr-weaker c.copy_pairs.result _ _ (λ e done tol
     subst (λ x. IsNotCopied (seen (g.D.Disk.history x)) e) c.new-source.ensures.disk
     (as_refused img fresh o hs hc as_s as_c checked made e
     (done told told (fresh_short img fresh o hs hc as_s as_c checked file (g.D.Disk.size to) short (g.met.D.Disk.told_size to told)) []
-    (source_accepted img fresh o hs hc as_s as_c checked) (fresh_holds img fresh o hs hc as_s as_c checked file)))))
+    (source_accepted img fresh o hs hc as_s as_c checked) (new_file_of (form_of img)) (fresh_holds img fresh o hs hc as_s as_c checked file)))))
     c.copy_pairs.ensures.refused

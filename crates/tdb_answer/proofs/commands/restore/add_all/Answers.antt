@@ -4,6 +4,7 @@ use Rattle.tdb_disk.specs.History.{seen}
 use Rattle.tdb_space.specs.Form.{form_in}
 use Rattle.tdb_backup.specs.Building.{HoldsPairs}
 use Rattle.tdb_backup.specs.Restoring.{Restored, RestoreCause}
+use Rattle.tdb_answer.specs.Commands.Create.{new_file_of}
 use Rattle.tdb_words.specs.declared.word.Order.TheVariants.{Little}
 use Rattle.tdb_words.specs.declared.hash.HashKind.TheVariants.{Old}
 use Rattle.tdb_cmdline.specs.declared.limits.TheConstants.{DEFAULT_SIZE}
@@ -21,9 +22,9 @@ returns-clause-restored g c = on_ok_weaker c.restore_pairs.result (λ done heard
     let form : form_in c.new-space.result.header ≡ new_form = ap form_in c.new-space.ensures.header in
     let file = subst (λ x. IsNewFile DEFAULT_SIZE Little Old (seen (g.D.Disk.history x))) (sym same) (c.requires.new told) in
     let short : g.D.Disk.size d < 2 ^ 32 = new_short (seen (g.D.Disk.history d)) file (g.D.Disk.size d) (g.met.D.Disk.told_size d told) in
-    subst (λ d. Restored new_form (seen (g.D.Disk.history d)) (g.S.Source.left c.args.input.now)) (sym (c.disk-1.given.1 (sym c.new-space.ensures.same_reference ∙ sym kept)))
-    (subst (λ f. Restored f (seen (g.D.Disk.history c.restore_pairs.new.to.disk.now)) (g.S.Source.left c.args.input.now)) form
-    (done heard told short (subst (λ f. HoldsPairs f (seen (g.D.Disk.history d)) []) (sym form) (holds_nothing (seen (g.D.Disk.history d)) file))))))
+    subst (λ d. Restored c.args.limit (new_file_of new_form) new_form (seen (g.D.Disk.history d)) (g.S.Source.left c.args.input.now)) (sym (c.disk-1.given.1 (sym c.new-space.ensures.same_reference ∙ sym kept)))
+    (subst (λ f. Restored c.args.limit (new_file_of new_form) f (seen (g.D.Disk.history c.restore_pairs.new.to.disk.now)) (g.S.Source.left c.args.input.now)) form
+    (done heard told short (new_file_of new_form) (subst (λ f. HoldsPairs c.args.limit (new_file_of new_form) f (seen (g.D.Disk.history d)) []) (sym form) (holds_nothing (seen (g.D.Disk.history d)) file c.args.limit))))))
     c.restore_pairs.ensures.restored
 
 pub returns-clause-refused : goal.returns-clause-refused
@@ -35,7 +36,7 @@ returns-clause-refused g c = IfErr-weaker c.restore_pairs.result _ _ (λ e done 
     let file = subst (λ x. IsNewFile DEFAULT_SIZE Little Old (seen (g.D.Disk.history x))) (sym same) (c.requires.new told) in
     let short : g.D.Disk.size d < 2 ^ 32 = new_short (seen (g.D.Disk.history d)) file (g.D.Disk.size d) (g.met.D.Disk.told_size d told) in (
       img,
-      subst (λ f. RestoreCause f img (g.S.Source.left c.args.input.now) c.args.limit e) form
-          (done heard told short (subst (λ f. HoldsPairs f (seen (g.D.Disk.history d)) []) (sym form) (holds_nothing (seen (g.D.Disk.history d)) file))),
+      subst (λ f. RestoreCause (new_file_of new_form) f img (g.S.Source.left c.args.input.now) c.args.limit e) form
+          (done heard told short (new_file_of new_form) (subst (λ f. HoldsPairs c.args.limit (new_file_of new_form) f (seen (g.D.Disk.history d)) []) (sym form) (holds_nothing (seen (g.D.Disk.history d)) file c.args.limit))),
     )))
     c.restore_pairs.ensures.refused

@@ -5,7 +5,7 @@ use Rattle.tdb_answer.proofs.commands.restore.fill.Goals as goal
 -- the pairs were added, and are on the medium
 pub returns-in-Ok-sync-clause-restored : goal.returns-in-Ok-sync-clause-restored
 returns-in-Ok-sync-clause-restored g c heard told =
-    restored_synced (g.S.Source.left c.args.input.now) (g.D.Disk.history c.add_all.new.disk) (g.D.Disk.history c.sync.new.self)
+    restored_synced c.args.limit (g.S.Source.left c.args.input.now) (g.D.Disk.history c.add_all.new.disk) (g.D.Disk.history c.sync.new.self)
     (c.in_ok-add_all.ensures.restored heard told) (c.in-Ok-sync.ensures.done told)
 
 -- they weren't

@@ -71,7 +71,7 @@ returns-in-Ok-remove g c =
     record {
       cause = λ told. refused_cause (heard_so g a) c.args.limit c.args.name.now (g.F.Files.held c.args.files.now c.args.name.now) before after (fresh g a told) r e is counted
           (λ heard. c.in-Err-filled.ensures.refused heard told) v.failed;
-      left = λ told. removed_left (heard_so g a) (g.F.Files.held c.args.files.now c.args.name.now) (g.F.Files.held c.remove.new.self c.args.name.now) r e (fresh g a told) (c.in-Ok-remove.ensures.gone told) is;
+      left = λ told. removed_left c.args.limit (heard_so g a) (g.F.Files.held c.args.files.now c.args.name.now) (g.F.Files.held c.remove.new.self c.args.name.now) r e (fresh g a told) (c.in-Ok-remove.ensures.gone told) is;
       others = λ other apart. c.remove.ensures.others other apart ∙ c.give.ensures.held_others other apart ∙ c.in-Ok.ensures.held_others other apart;
       given_back = λ other. c.remove.ensures.taken other ∙ back g a other;
       counted = counted;
@@ -91,7 +91,7 @@ returns-in-Err-remove g c =
     let rose : Rose before after = rose_earlier before given after later c.in-Err-remove.ensures.cause.failed in
     record {
       cause = λ told. inl (task_failed rose);
-      left = λ told. failed_left (heard_so g a) (g.F.Files.held c.args.files.now c.args.name.now) (g.F.Files.held c.remove.new.self c.args.name.now) (fresh g a told);
+      left = λ told. failed_left c.args.limit (heard_so g a) (g.F.Files.held c.args.files.now c.args.name.now) (g.F.Files.held c.remove.new.self c.args.name.now) (fresh g a told);
       others = λ other apart. c.remove.ensures.others other apart ∙ c.give.ensures.held_others other apart ∙ c.in-Ok.ensures.held_others other apart;
       given_back = λ other. c.remove.ensures.taken other ∙ back g a other;
       counted = failed_counted before given after later c.in-Err-remove.ensures.cause.never_falls c.in-Err-remove.ensures.cause.failed;
