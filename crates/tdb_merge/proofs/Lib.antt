@@ -1,5 +1,4 @@
 mod Stored
-mod Calm
 mod Shapes
 mod Running
 mod Commands

@@ -25,10 +25,11 @@ use Rattle.tdb_world.specs.Whole.{form_at}
 use Rattle.tdb_world.proofs.Reopening.{state_reopens}
 use Rattle.tdb_world.proofs.Stopping.{transactions_safe}
 use Rattle.tdb_merge.specs.Faults.{OnDevice, UnlessDevice, of_value}
-use Rattle.tdb_merge.specs.Parts.{AtRest, Inside, IsReadWith, Led, OpensToEither, Outside, PartLeaves, Phase, Ran}
+use Rattle.tdb_world.specs.Calm.{OpensToEither}
+use Rattle.tdb_merge.specs.Parts.{AtRest, Inside, IsReadWith, Led, Outside, PartLeaves, Phase, Ran}
 use Rattle.tdb_merge.specs.declared.fault.MergeFault.{MergeFault}
 use Rattle.tdb_merge.specs.declared.fault.MergeFault.TheVariants.{Full, Starved, Read, Device, Log, Memory}
-use Rattle.tdb_merge.proofs.Calm.{rest_file}
+use Rattle.tdb_world.proofs.Calm.{rest_file}
 
 abbrev Answer : Type 0
 Answer = Result (Unit {0}) MergeFault

@@ -39,10 +39,11 @@ use Rattle.tdb_world.proofs.Courses.Stopping.{leads_one}
 use Rattle.tdb_world.proofs.Reopening.{state_reopens}
 use Rattle.tdb_merge.specs.Endings.{ending_of}
 use Rattle.tdb_merge.specs.Faults.{OnDevice, of_log, of_run}
-use Rattle.tdb_merge.specs.Parts.{AtRest, Does, IsReadWith, Led, OpensToEither, PartLeaves, Phase, Ran}
+use Rattle.tdb_world.specs.Calm.{OpensToEither}
+use Rattle.tdb_merge.specs.Parts.{AtRest, Does, IsReadWith, Led, PartLeaves, Phase, Ran}
 use Rattle.tdb_merge.specs.declared.fault.MergeFault.{MergeFault}
 use Rattle.tdb_merge.specs.declared.fault.MergeFault.TheVariants.{Full, Starved, Read, Memory}
-use Rattle.tdb_merge.proofs.Calm.{calm_end, calm_file, calm_transacted, calm_way, rest_file}
+use Rattle.tdb_world.proofs.Calm.{calm_end, calm_file, calm_transacted, calm_way, rest_file}
 use Rattle.tdb_merge.proofs.Ended.{SaysReply, ending_says}
 use Rattle.tdb_merge.proofs.Parts.{unless_true}
 use Rattle.tdb_merge.proofs.Running.{LedTo, Over, Running, lines_lead, reply_in}

@@ -18,8 +18,9 @@ use Rattle.tdb_law.specs.Replay.{Allows, Replay, Says, line_map, line_own, map_t
 use Rattle.tdb_law.specs.Replay.Says.{says_busy, says_end, says_full, says_memory, says_number, says_pair, says_plain}
 use Rattle.tdb_law.proofs.Tests.{never_true}
 use Rattle.tdb_law.proofs.Walking.{put_else}
-use Rattle.tdb_merge.specs.Parts.{Does, IsGroup, IsIn, Phase}
-use Rattle.tdb_merge.proofs.Calm.{AllCalm, Calm}
+use Rattle.tdb_world.specs.Calm.{IsGroup}
+use Rattle.tdb_merge.specs.Parts.{Does, IsIn, Phase}
+use Rattle.tdb_world.proofs.Calm.{AllCalm, Calm}
 use Rattle.tdb_merge.proofs.Shapes.{AreGrowths, Runs}
 
 -- the reply with which a turn ends, and the first that lines tell

@@ -32,7 +32,8 @@ use Rattle.tdb_world.specs.Stops.{IsSafe}
 use Rattle.tdb_world.specs.Whole.{form_at, options_at}
 use Rattle.tdb_merge.specs.Faults.{UnlessDevice}
 use Rattle.tdb_merge.specs.Merged.{Holding, IsReadHolding, MergeKeeps, MergeLeaves, Merges, OpensHolding, OpensHoldingEither, StopsHolding, merged}
-use Rattle.tdb_merge.specs.Parts.{AtRest, Committed, Inside, IsReadWith, Led, OpensToEither, OpensToMap, Outside, PartLeaves, Ran, stored}
+use Rattle.tdb_world.specs.Calm.{OpensToEither, OpensToMap}
+use Rattle.tdb_merge.specs.Parts.{AtRest, Committed, Inside, IsReadWith, Led, Outside, PartLeaves, Ran, stored}
 use Rattle.tdb_merge.specs.declared.fault.MergeFault.{MergeFault}
 use Rattle.tdb_merge.specs.declared.fault.MergeFault.TheVariants.{Full, Starved, Read, Device, Log, Memory}
 use Rattle.tdb_merge.proofs.Parts.{inside_safe, rest_read}

@@ -6,7 +6,6 @@ use Rattle.tdb_disk.specs.History.{seen}
 use Rattle.tdb_disk.specs.Stop.{LeavesOnly}
 use Rattle.tdb_space.specs.Form.{Form}
 use Rattle.tdb_space.specs.Opening.{restored}
-use Rattle.tdb_space.specs.Undoing.{Reopens}
 use Rattle.tdb_law.specs.Commands.{Command, Reply}
 use Rattle.tdb_law.specs.Commands.Command.{OnGroup}
 use Rattle.tdb_law.specs.Commands.GroupCommand.{Commit}
@@ -19,6 +18,7 @@ use Rattle.tdb_law.specs.Refusals.{refusal}
 use Rattle.tdb_law.specs.Replay.{Replay, line_map, line_own}
 use Rattle.tdb_law.specs.Standing.{Stands}
 use Rattle.tdb_law.specs.World.{State, IsSound}
+use Rattle.tdb_world.specs.Calm.{IsGroup, OpensToEither}
 use Rattle.tdb_world.specs.OverFile.{OverFile, HasState}
 use Rattle.tdb_world.specs.Stops.{IsSafe}
 use Rattle.tdb_world.specs.Whole.{form_at}
@@ -61,11 +61,6 @@ pub record AtRest (m : Map) (phase : Phase) (w : OverFile) : Type 0 where
   pub fresh : replay.stale ≡ false
   pub own : IsIn phase (replay.own 0)
 
--- a command on the transaction
-abbrev pub IsGroup : Command → Type 0
-IsGroup (OnGroup g) = Unit {0}
-IsGroup c = ⊥
-
 -- What a command does by the law to the committed map m, where its opener is in a phase. Unless it is one on the
 -- transaction it takes no step; a Commit brings an image with the map n; its end leaves m or n; and where it is done it
 -- leaves this map and this phase.
@@ -75,15 +70,6 @@ pub record Does (m n : Map) (from : Phase) (end : Map) (to : Phase) (c : Command
   pub ends : (f : Form) (x : Own) → IsIn from x → (r : Reply) → (line_map f c x (Ends r) m ≡ m) ⊎ (line_map f c x (Ends r) m ≡ n)
   pub done_map : (f : Form) (x : Own) → IsIn from x → refusal f c x ≡ None → line_map f c x (Ends Done) m ≡ end
   pub done_own : (f : Form) (x : Own) → IsIn from x → refusal f c x ≡ None → (k : ℕ) → IsIn to (line_own f c x k (Ends Done) m)
-
--- An image opens to this map, read in this form; or to one of two.
-pub record OpensToMap (f : Form) (m : Map) (c : List ℕ) : Type 0 where
-  pub image : List ℕ
-  pub reopens : Reopens image c
-  pub map : m ≡ image_map f image
-
-abbrev pub OpensToEither : Form → Map → Map → List ℕ → Type 0
-OpensToEither f m n c = OpensToMap f m c ⊎ OpensToMap f n c
 
 -- the file of a world is read with this map, an open gate undone
 abbrev pub IsReadWith : Map → OverFile → Type 0

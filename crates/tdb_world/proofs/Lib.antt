@@ -21,6 +21,7 @@ pub mod Settled
 pub mod Staged
 pub mod Starved
 pub mod Stopping
+pub mod Calm
 pub mod PreparedTurns
 pub mod Synced
 pub mod Looking

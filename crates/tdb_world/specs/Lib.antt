@@ -5,6 +5,7 @@ pub mod Claims
 pub mod Shut
 pub mod Died
 pub mod Stops
+pub mod Calm
 pub mod Prepared
 pub mod Syncs
 pub mod Courses

@@ -22,7 +22,7 @@ use Rattle.tdb_law.proofs.Maps.{maps_equal}
 use Rattle.tdb_law.proofs.Tests.{and_both, never_true}
 use Rattle.tdb_world.specs.Stops.{IsChanging, TurnMayLeave}
 use Rattle.tdb_world.specs.Courses.Stops.{IsTransacted, OpensOnTheWay}
-use Rattle.tdb_merge.specs.Parts.{IsGroup, OpensToEither}
+use Rattle.tdb_world.specs.Calm.{IsGroup, OpensToEither}
 
 -- The committed map is one of two; a command that has begun has had no step, or is one on the transaction; and a Commit
 -- that has begun brings an image with the second map. No gate stands open.
