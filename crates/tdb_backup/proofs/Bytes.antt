@@ -49,5 +49,20 @@ pair_cut bytes img at rec read =
     let value = ap (λ n. take n (drop (24 + k) bytes)) value_len ∙ part bytes (drop at img) (24 + k) d (24 + k + d) (omega arith) read ∙ ap (take d) (from_on img at (24 + k) ∙ ap (λ n. drop n img) far) in
     λ j. (key j, value j)
 
+-- the same where the header wasn't read with them
+pub known_cut : (bytes img : List ℕ) (at : ℕ) (rec : Rec) → take (rec.key_len + rec.data_len) bytes ≡ take (rec.key_len + rec.data_len) (drop (at + 24) img)
+    → IsPairOf rec img at (take (rec.key_len - 0) (drop 0 bytes), take (rec.key_len + rec.data_len - rec.key_len) (drop rec.key_len bytes))
+known_cut bytes img at rec read =
+    let k = rec.key_len in
+    let d = rec.data_len in
+    let key_len : k - 0 ≡ k = omega arith in
+    let value_len : k + d - k ≡ d = omega arith in
+    let key = ap (λ n. take n (drop 0 bytes)) key_len ∙ part bytes (drop (at + 24) img) 0 k (k + d) (omega arith) read in
+    let value = ap (λ n. take n (drop k bytes)) value_len ∙ part bytes (drop (at + 24) img) k d (k + d) (omega arith) read ∙ ap (take d) (from_on img (at + 24) k) in
+    λ j. (key j, value j)
+
 pub key_cut : (bytes : List ℕ) (k d : ℕ) → 24 + k + d ≤ length bytes → length (take (24 + k - 24) (drop 24 bytes)) ≡ k
 key_cut bytes k d long = omega (arith, length-take (24 + k - 24) (drop 24 bytes), length-drop 24 bytes, long)
+
+pub known_key_cut : (bytes : List ℕ) (k d : ℕ) → k + d ≤ length bytes → length (take (k - 0) (drop 0 bytes)) ≡ k
+known_key_cut bytes k d long = omega (arith, length-take (k - 0) (drop 0 bytes), long)

@@ -1,6 +1,6 @@
 // The bytes of the record that a traversal read last.
 
-ghost use Rattle.std.specs.Prelude.{◌≡◌, ◌+◌, ◌≤◌, List, ℕ, length, take, drop, IsTrue, IfOk, OnOk};
+ghost use Rattle.std.specs.Prelude.{◌≡◌, ◌+◌, ◌^◌, ◌<◌, ◌≤◌, List, ℕ, length, take, drop, IsTrue, IfOk, OnOk};
 ghost use Rattle.tdb_disk.specs.Count.{HasCause, HasCauseOf};
 ghost use Rattle.tdb_words.specs.Record.{rec_at};
 ghost use Rattle.tdb_space.specs.Frame.{Looked};
@@ -85,7 +85,7 @@ impl Held {
         self.value_at = 0;
         self.end = 0;
         let end = WINDOW.min(len - at as u64) as usize;
-        read_up_to(s, at, &mut self.bytes, 0, end)?;
+        read_up_to(s, at as u64, &mut self.bytes, 0, end)?;
         self.end = end;
         Ok(rec_in(&self.bytes[..end], s.order()))
     }
@@ -105,25 +105,54 @@ impl Held {
     {
         let value_at = HEADER + rec.key_len as usize;
         let end = value_at + rec.data_len as usize;
-        read_up_to(s, at, &mut self.bytes, self.end, end)?;
+        read_up_to(s, at as u64, &mut self.bytes, self.end, end)?;
         self.end = end;
         self.value_at = value_at;
         self.key_at = HEADER;
         Ok(())
     }
+
+    /// Reads the key and the value of the record at an offset, which has this header: both by one read, and nothing
+    /// else.
+    pub fn read_known<S: Space>(
+        &mut self,
+        s: &mut S,
+        at: u32,
+        rec: &Rec,
+    ) -> Result<(), ValueRefusal>
+        requires within { at + 24 + rec.now.key_len + rec.now.data_len ≤ S.size s.old }
+        ensures pair { OnOk result (IsTrue S.tells → IsPairOf rec.now (S.image s.old) at (pair_held self.new)) }
+        ensures key_length { OnOk result (length (pair_held self.new).0 ≡ rec.now.key_len) }
+        ensures value_length { OnOk result (length (pair_held self.new).1 ≡ rec.now.data_len) }
+        ensures looked { Looked S.Space s.old s.new }
+        ensures cause { HasCauseOf IoRefusal (S.faults s.old) (S.faults s.new) result }
+        ensures bytes_read { S.bytes_read s.old ≤ S.bytes_read s.new }
+    {
+        self.key_at = 0;
+        self.value_at = 0;
+        self.end = 0;
+        let value_at = rec.key_len as usize;
+        let end = value_at + rec.data_len as usize;
+        let begin = at as u64 + HEADER as u64;
+        read_up_to(s, begin, &mut self.bytes, 0, end)?;
+        self.end = end;
+        self.value_at = value_at;
+        Ok(())
+    }
 }
 
-/// Fills the room up to `end` with the bytes from the record at an offset on, of which it has the first `held`: reads
-/// what is missing. The room gets longer where it's too short.
+/// Fills the room up to `end` with the bytes from an offset on, of which it has the first `held`: reads what is missing.
+/// The room gets longer where it's too short.
 fn read_up_to<S: Space>(
     s: &mut S,
-    at: u32,
+    at: u64,
     room: &mut Vec<u8>,
     held: usize,
     end: usize,
 ) -> Result<(), ValueRefusal>
     requires held { held ≤ length room.old.items }
     requires within { at + end ≤ S.size s.old }
+    requires small { at + end < 2 ^ 64 }
     ensures long { OnOk result (end ≤ length room.new.items) }
     ensures no_shorter { length room.old.items ≤ length room.new.items }
     ensures shows { OnOk result (IsTrue S.tells → take held room.old.items ≡ take held (drop at (S.image s.old))
@@ -150,10 +179,10 @@ fn lengthen(room: &mut Vec<u8>, len: usize) -> Result<(), AllocError>
     Ok(())
 }
 
-/// Fills the bytes from `held` up to `end` with those that stand there from the record at an offset on.
+/// Fills the bytes from `held` up to `end` with those that stand there from an offset on.
 fn read_behind<S: Space>(
     s: &mut S,
-    at: u32,
+    at: u64,
     held: usize,
     end: usize,
     room: &mut [u8],
@@ -161,11 +190,12 @@ fn read_behind<S: Space>(
     requires held { held ≤ end }
     requires end { end ≤ length room.old }
     requires within { at + end ≤ S.size s.old }
+    requires small { at + end < 2 ^ 64 }
     ensures shows { OnOk result (IsTrue S.tells → take held room.old ≡ take held (drop at (S.image s.old))
         → take end room.new ≡ take end (drop at (S.image s.old))) }
     ensures looked { Looked S.Space s.old s.new }
     ensures cause { HasCause (S.faults s.old) (S.faults s.new) result }
     ensures bytes_read { S.bytes_read s.old ≤ S.bytes_read s.new }
 {
-    s.read(at as u64 + held as u64, &mut room[held..end])
+    s.read(at + held as u64, &mut room[held..end])
 }
