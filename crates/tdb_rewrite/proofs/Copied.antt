@@ -29,7 +29,9 @@ use Rattle.tdb_backup.specs.declared.refusal.InsertRefusal.TheVariants.{Full, Io
 use Rattle.tdb_backup.specs.declared.refusal.CopyRefusal.{CopyRefusal}
 use Rattle.tdb_backup.specs.declared.refusal.CopyRefusal.TheVariants as Copy
 use Rattle.tdb_rewrite.proofs.Walking.{moved}
-use Rattle.tdb_rewrite.specs.Rewritten.{AreNew, IsBare, Rewritten, HoldsEnd, RewriteCause, StandsUsed, chosen, of_chain}
+use Rattle.tdb_rewrite.specs.Places.{HasHeader}
+use Rattle.tdb_rewrite.specs.declared.walk.Listed.{Listed}
+use Rattle.tdb_rewrite.specs.Rewritten.{AreNew, IsBare, Rewritten, HoldsEnd, RewriteCause, StandsRead, StandsUsed, chosen, of_chain}
 
 -- a bare image has no record in a chain
 bare_chain : (f : Form) (img : List ℕ) → IsBare f img → (j : ℕ) → j < f.chains → chain_of f img j ≡ []
@@ -287,25 +289,25 @@ refused_ahead f img prefix g b offs limit Value.TheVariants.Io h = ahead_kept f 
 refused_ahead f img prefix g b offs limit Value.TheVariants.Memory h = ahead_kept f img prefix g b offs h
 
 -- the last of the records that are ahead is copied, or refused, by a call over views that are as they were
-module _ (f k : Form) (img v prefix : List ℕ) (g l : Form) (a b offs rest : List ℕ) (off limit : ℕ) (form : k ≡ f) (image : v ≡ img) (same : l ≡ g) (R : Readable f img)
-    (h : Ahead f img prefix g a offs) (last : offs ≡ rest ++ off ∷ []) where
-  stands_there : StandsUsed k v off
-  stands_there = moved (λ x i. StandsUsed x i off) k f v img (sym form) (sym image) (next_stands f img prefix g a offs h rest off last)
+module _ (f k : Form) (img v prefix : List ℕ) (g l : Form) (a b offs rest : List ℕ) (found : Listed) (limit : ℕ) (form : k ≡ f) (image : v ≡ img) (same : l ≡ g) (R : Readable f img)
+    (h : Ahead f img prefix g a offs) (last : offs ≡ rest ++ found.off ∷ []) (header : HasHeader f img found) where
+  stands_there : StandsRead k v found
+  stands_there = moved (λ x i. StandsRead x i found) k f v img (sym form) (sym image) (header, next_stands f img prefix g a offs h rest found.off last)
 
   holds_there : Rewritten l a h.done
   holds_there = subst (λ x. Rewritten x a h.done) (sym same) h.holds
 
-  new_there : AreNew (chosen prefix (pair_of k.order v off)) h.done
-  new_there = moved (λ x i. AreNew (chosen prefix (pair_of x.order i off)) h.done) k f v img (sym form) (sym image) (next_new f img prefix g a offs h rest off last R)
+  new_there : AreNew (chosen prefix (pair_of k.order v found.off)) h.done
+  new_there = moved (λ x i. AreNew (chosen prefix (pair_of x.order i found.off)) h.done) k f v img (sym form) (sym image) (next_new f img prefix g a offs h rest found.off last R)
 
-  pub step_copied : (StandsUsed k v off → (done : List (List ℕ × List ℕ)) → Rewritten l a done → AreNew (chosen prefix (pair_of k.order v off)) done → Rewritten l b (chosen prefix (pair_of k.order v off) ++ done)) → Ahead f img prefix g b rest
+  pub step_copied : (StandsRead k v found → (done : List (List ℕ × List ℕ)) → Rewritten l a done → AreNew (chosen prefix (pair_of k.order v found.off)) done → Rewritten l b (chosen prefix (pair_of k.order v found.off) ++ done)) → Ahead f img prefix g b rest
   step_copied copied =
-      ahead_more f img prefix g a offs h rest off last b
-      (moved (λ x i. Rewritten g b (chosen prefix (pair_of x.order i off) ++ h.done)) f k img v form image
-      (subst (λ x. Rewritten x b (chosen prefix (pair_of k.order v off) ++ h.done)) same (copied stands_there h.done holds_there new_there)))
+      ahead_more f img prefix g a offs h rest found.off last b
+      (moved (λ x i. Rewritten g b (chosen prefix (pair_of x.order i found.off) ++ h.done)) f k img v form image
+      (subst (λ x. Rewritten x b (chosen prefix (pair_of k.order v found.off) ++ h.done)) same (copied stands_there h.done holds_there new_there)))
 
-  pub step_refused : (e : CopyRefusal) → (StandsUsed k v off → (done : List (List ℕ × List ℕ)) → Rewritten l a done → AreNew (chosen prefix (pair_of k.order v off)) done → RewriteCause l b (chosen prefix (pair_of k.order v off) ++ done) limit e) → RewriteCause g b (chosen prefix (order_of f img)) limit e
+  pub step_refused : (e : CopyRefusal) → (StandsRead k v found → (done : List (List ℕ × List ℕ)) → Rewritten l a done → AreNew (chosen prefix (pair_of k.order v found.off)) done → RewriteCause l b (chosen prefix (pair_of k.order v found.off) ++ done) limit e) → RewriteCause g b (chosen prefix (order_of f img)) limit e
   step_refused e refused =
-      cause_more g b (chosen prefix (pairs f.order img rest)) (chosen prefix (pair_of f.order img off) ++ h.done) (chosen prefix (order_of f img)) limit e (next_split f img prefix g a offs h rest off last)
-      (moved (λ x i. RewriteCause g b (chosen prefix (pair_of x.order i off) ++ h.done) limit e) f k img v form image
-      (subst (λ x. RewriteCause x b (chosen prefix (pair_of k.order v off) ++ h.done) limit e) same (refused stands_there h.done holds_there new_there)))
+      cause_more g b (chosen prefix (pairs f.order img rest)) (chosen prefix (pair_of f.order img found.off) ++ h.done) (chosen prefix (order_of f img)) limit e (next_split f img prefix g a offs h rest found.off last)
+      (moved (λ x i. RewriteCause g b (chosen prefix (pair_of x.order i found.off) ++ h.done) limit e) f k img v form image
+      (subst (λ x. RewriteCause x b (chosen prefix (pair_of k.order v found.off) ++ h.done) limit e) same (refused stands_there h.done holds_there new_there)))

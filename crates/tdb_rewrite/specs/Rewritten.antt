@@ -14,6 +14,8 @@ use Rattle.tdb_space.specs.Record.{Whole, Fits, magic_of}
 use Rattle.tdb_backup.specs.Filling.{AllUsed, HoldsEach, HasNoRoom}
 use Rattle.tdb_backup.specs.declared.refusal.CopyRefusal.{CopyRefusal}
 use Rattle.tdb_backup.specs.declared.refusal.CopyRefusal.TheVariants.{Read, Write, Full, Memory}
+use Rattle.tdb_rewrite.specs.Places.{HasHeader}
+use Rattle.tdb_rewrite.specs.declared.walk.Listed.{Listed}
 
 -- of these pairs those whose key begins with a prefix, in their order
 abbrev pub chosen : List ℕ → List (List ℕ × List ℕ) → List (List ℕ × List ℕ)
@@ -42,6 +44,10 @@ pub record Rewritten (f : Form) (img : List ℕ) (given : List (List ℕ × List
 -- the record at an offset stands whole, and has room for what it holds where it is used
 abbrev pub StandsUsed : Form → List ℕ → ℕ → Type 0
 StandsUsed f img at = Whole f img at × (magic_of f.order img at ≡ USED → Fits f.order img at)
+
+-- a record that a walk gave stands whole, has room for what it holds where it is used, and has the image's header
+abbrev pub StandsRead : Form → List ℕ → Listed → Type 0
+StandsRead f img x = HasHeader f img x × StandsUsed f img x.off
 
 -- the keys of these pairs aren't among those of others
 abbrev pub AreNew : List (List ℕ × List ℕ) → List (List ℕ × List ℕ) → Type 0

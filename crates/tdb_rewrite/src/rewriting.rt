@@ -8,45 +8,47 @@ ghost use Rattle.tdb_space.specs.Pairs.{order_of, pair_of};
 ghost use Rattle.tdb_rewrite.specs.Readable.{Readable};
 ghost use Rattle.tdb_backup.specs.Held.{pair_held};
 ghost use Rattle.tdb_backup.specs.declared.refusal.CopyRefusal.TheVariants.{Read, Write};
-ghost use Rattle.tdb_rewrite.specs.Rewritten.{AreNew, IsBare, Rewritten, RewriteCause, StandsUsed, chosen};
+ghost use Rattle.tdb_rewrite.specs.Rewritten.{AreNew, IsBare, Rewritten, RewriteCause, StandsRead, chosen};
 
 use crate::places::Places;
+use crate::walk::Listed;
 use std::alloc::Global;
 use tdb_backup::{CopyRefusal, Held, insert_new};
 use tdb_chain::ValueRefusal;
 use tdb_space::Space;
 use tdb_words::USED;
 
-/// Reads the pair of the record at an offset of a file of `len` bytes. Answers whether it is used, and lies within the
-/// file.
-fn read_pair<S: Space>(held: &mut Held, s: &mut S, len: u64, off: u32) -> Result<bool, ValueRefusal>
+/// Reads the pair of a record, whose header was read, of a file of `len` bytes. Answers whether it is used, and lies
+/// within the file.
+fn read_pair<S: Space>(
+    held: &mut Held,
+    s: &mut S,
+    len: u64,
+    found: Listed,
+) -> Result<bool, ValueRefusal>
     requires length { len ≡ S.size s.old }
-    ensures pair { IfOk result (λ used. IsTrue S.tells → StandsUsed (S.form s.old) (S.image s.old) off
-        → pair_of (S.form s.old).order (S.image s.old) off ≡ (if used then pair_held held.new ∷ [] else [])) }
+    ensures pair { IfOk result (λ used. IsTrue S.tells → StandsRead (S.form s.old) (S.image s.old) found
+        → pair_of (S.form s.old).order (S.image s.old) found.off ≡ (if used then pair_held held.new ∷ [] else [])) }
     ensures key_short { IfOk result (λ used. IsTrue used → length (pair_held held.new).0 < 2 ^ 32) }
     ensures value_short { IfOk result (λ used. IsTrue used → length (pair_held held.new).1 < 2 ^ 32) }
     ensures looked { Looked S.Space s.old s.new }
     ensures cause { HasCauseOf Unread (S.faults s.old) (S.faults s.new) result }
 {
-    let begin = off as u64 + 24;
-    if len < begin {
-        return Ok(false);
-    }
-    let rec = held.read_front(s, len, off)?;
-    let end = begin + rec.key_len as u64 + rec.data_len as u64;
+    let rec = found.rec;
+    let end = found.off as u64 + 24 + rec.key_len as u64 + rec.data_len as u64;
     if rec.magic != USED || len < end {
         return Ok(false);
     }
-    held.read_rest(s, off, &rec)?;
+    held.read_known(s, found.off, &rec)?;
     Ok(true)
 }
 
-/// Adds the pair of the record at an offset to another file, where the record is used and its key begins with `prefix`.
+/// Adds the pair of a record to another file, where the record is used and its key begins with `prefix`.
 fn copy_record<S: Space, T: Space>(
     held: &mut Held,
     from: &mut S,
     len: u64,
-    off: u32,
+    found: Listed,
     to: &mut T,
     prefix: &[u8],
     limit: u64,
@@ -54,14 +56,14 @@ fn copy_record<S: Space, T: Space>(
     requires length { len ≡ S.size from.old }
     requires chains { 0 < (T.form to.old).chains }
     requires limit { limit ≤ 4294963200 }
-    ensures copied { OnOk result (IsTrue S.tells → IsTrue T.tells → T.size to.old < 2 ^ 32 → StandsUsed (S.form from.old) (S.image from.old) off
+    ensures copied { OnOk result (IsTrue S.tells → IsTrue T.tells → T.size to.old < 2 ^ 32 → StandsRead (S.form from.old) (S.image from.old) found
         → (done : List (List ℕ × List ℕ)) → Rewritten (T.form to.old) (T.image to.old) done
-        → AreNew (chosen prefix.now (pair_of (S.form from.old).order (S.image from.old) off)) done
-        → Rewritten (T.form to.old) (T.image to.new) (chosen prefix.now (pair_of (S.form from.old).order (S.image from.old) off) ++ done)) }
-    ensures refused { IfErr result (λ e. IsTrue S.tells → IsTrue T.tells → T.size to.old < 2 ^ 32 → StandsUsed (S.form from.old) (S.image from.old) off
+        → AreNew (chosen prefix.now (pair_of (S.form from.old).order (S.image from.old) found.off)) done
+        → Rewritten (T.form to.old) (T.image to.new) (chosen prefix.now (pair_of (S.form from.old).order (S.image from.old) found.off) ++ done)) }
+    ensures refused { IfErr result (λ e. IsTrue S.tells → IsTrue T.tells → T.size to.old < 2 ^ 32 → StandsRead (S.form from.old) (S.image from.old) found
         → (done : List (List ℕ × List ℕ)) → Rewritten (T.form to.old) (T.image to.old) done
-        → AreNew (chosen prefix.now (pair_of (S.form from.old).order (S.image from.old) off)) done
-        → RewriteCause (T.form to.old) (T.image to.new) (chosen prefix.now (pair_of (S.form from.old).order (S.image from.old) off) ++ done) limit e) }
+        → AreNew (chosen prefix.now (pair_of (S.form from.old).order (S.image from.old) found.off)) done
+        → RewriteCause (T.form to.old) (T.image to.new) (chosen prefix.now (pair_of (S.form from.old).order (S.image from.old) found.off) ++ done) limit e) }
     ensures within { (first : ℕ) → T.size to.old ≤ max first limit → T.size to.new ≤ max first limit }
     ensures grows { T.size to.old ≤ T.size to.new }
     ensures looked { Looked S.Space from.old from.new }
@@ -69,7 +71,7 @@ fn copy_record<S: Space, T: Space>(
     ensures read_cause { HasCauseOf Read (S.faults from.old) (S.faults from.new) result }
     ensures write_cause { HasCauseOf Write (T.faults to.old) (T.faults to.new) result }
 {
-    let used = read_pair(held, from, len, off)?;
+    let used = read_pair(held, from, len, found)?;
     if !used {
         return Ok(());
     }
@@ -89,7 +91,7 @@ fn copy_record<S: Space, T: Space>(
 ///
 /// A pair is put in front of its chain, so the pairs are added from the last one to the first, without a look-up: time
 /// is linear in the length of the file that is read. It walks along each chain right before it copies that chain's
-/// records, and holds one pair, and 4 bytes for each record of a chain. After a refusal the new file holds the last
+/// records, and holds one pair, and 28 bytes for each record of a chain. After a refusal the new file holds the last
 /// pairs, down to the one that was refused, unless it was the new file's disk that failed: `Read` where the disk that
 /// is read failed, `Write` where the other did, `Full` where no room is left within the limit, and `Memory` where that
 /// is wanting.
@@ -117,8 +119,8 @@ pub fn rewrite<S: Space, T: Space>(
 {
     let mut places = Places::of(alloc, from)?;
     let mut held = Held::new(alloc);
-    while let Some(off) = places.next(from)? {
-        copy_record(&mut held, from, places.len, off, to, prefix, limit)?;
+    while let Some(found) = places.next(from)? {
+        copy_record(&mut held, from, places.len, found, to, prefix, limit)?;
     }
     Ok(())
 }

@@ -1,9 +1,10 @@
 // The walk along one list of records: a chain, or the free list.
 
-ghost use Rattle.std.specs.Prelude.{◌≡◌, ◌+◌, ◌*◌, ◌^◌, ◌<◌, ◌≤◌, List, ℕ, IsTrue, IsSome, IfOk};
+ghost use Rattle.std.specs.Prelude.{◌≡◌, ◌+◌, ◌*◌, ◌^◌, ◌<◌, ◌≤◌, List, ℕ, IsTrue, IsSome, IfSome, IfOk};
 ghost use Rattle.tdb_disk.specs.Count.{HasCause};
 ghost use Rattle.tdb_words.specs.Word.{word};
 ghost use Rattle.tdb_space.specs.Frame.{Looked};
+ghost use Rattle.tdb_rewrite.specs.Places.{HasHeader};
 ghost use Rattle.tdb_rewrite.specs.Walk.{IsWholeList, Ahead, Gives};
 
 use tdb_space::{Io, Space, read_listed, read_word};
@@ -57,6 +58,7 @@ impl ListWalk {
         requires length { len ≡ S.size s.old }
         ensures gives { IfOk result (λ found. IsTrue S.tells → (offs : List ℕ) → Ahead (S.form s.old) (S.image s.old) offs self.old
             → Gives (S.form s.old) (S.image s.old) offs found self.new) }
+        ensures header { IfOk result (λ found. IsTrue S.tells → IfSome found (λ x. HasHeader (S.form s.old) (S.image s.old) x)) }
         ensures fewer { IfOk result (λ found. IsSome found → self.new.left < self.old.left) }
         ensures looked { Looked S.Space s.old s.new }
         ensures cause { HasCause (S.faults s.old) (S.faults s.new) result }

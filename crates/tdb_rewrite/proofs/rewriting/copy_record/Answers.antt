@@ -14,21 +14,21 @@ use Rattle.tdb_rewrite.proofs.rewriting.copy_record.Goals as goal
 pub returns-in_err-used-clause-refused : goal.returns-in_err-used-clause-refused
 returns-in_err-used-clause-refused g c =
     let p = err_from_is_err_and c.from_residual.result c.from_residual.ensures.1 in
-    let ps = pair_of (g.S.Space.form c.args.from.now).order (g.S.Space.image c.args.from.now) c.args.off in
+    let ps = pair_of (g.S.Space.form c.args.from.now).order (g.S.Space.image c.args.from.now) c.args.found.off in
     rw (p.1, p.2)
     (λ told heard small stands done R new.
     refused_unread (g.T.Space.form c.args.to.now) (g.T.Space.image c.args.to.now) (chosen c.args.prefix.now ps) done c.args.limit c.in_err-used.field-0.0 R)
 
 pub returns-then-not-used-clause-copied : goal.returns-then-not-used-clause-copied
 returns-then-not-used-clause-copied g c told heard small stands done R new =
-    let ps = pair_of (g.S.Space.form c.args.from.now).order (g.S.Space.image c.args.from.now) c.args.off in
+    let ps = pair_of (g.S.Space.form c.args.from.now).order (g.S.Space.image c.args.from.now) c.args.found.off in
     copied_none (g.T.Space.form c.args.to.now) (g.T.Space.image c.args.to.now) (chosen c.args.prefix.now ps) done
     (chosen_unused c.args.prefix.now ps (pair_held c.read_pair.new.held) c.in_ok-used.used c.if-not-used.true (c.in_ok-used.ensures.pair told stands)) R
 
 pub returns-then-not-starts_with-clause-copied : goal.returns-then-not-starts_with-clause-copied
 returns-then-not-starts_with-clause-copied g c told heard small stands done R new =
     let prefix = c.args.prefix.now in
-    let ps = pair_of (g.S.Space.form c.args.from.now).order (g.S.Space.image c.args.from.now) c.args.off in
+    let ps = pair_of (g.S.Space.form c.args.from.now).order (g.S.Space.image c.args.from.now) c.args.found.off in
     let pair = pair_held c.read_pair.new.held in
     let begins = c.starts_with.ensures.value ∙ ap (λ k. starts_with nat_eq k prefix) c.key-key.ensures in
     copied_none (g.T.Space.form c.args.to.now) (g.T.Space.image c.args.to.now) (chosen prefix ps) done
@@ -37,7 +37,7 @@ returns-then-not-starts_with-clause-copied g c told heard small stands done R ne
 pub returns-clause-copied : goal.returns-clause-copied
 returns-clause-copied g c told heard small stands done R new =
     let prefix = c.args.prefix.now in
-    let ps = pair_of (g.S.Space.form c.args.from.now).order (g.S.Space.image c.args.from.now) c.args.off in
+    let ps = pair_of (g.S.Space.form c.args.from.now).order (g.S.Space.image c.args.from.now) c.args.found.off in
     let pair = pair_held c.read_pair.new.held in
     let begins = c.starts_with.ensures.value ∙ ap (λ k. starts_with nat_eq k prefix) c.key-key.ensures in
     let one = chosen_this prefix ps pair c.in_ok-used.used c.starts_with.result c.if-not-used.false begins (c.in_ok-used.ensures.pair told stands) c.if-not-starts_with.false in
@@ -48,7 +48,7 @@ pub returns-in_err-insert_new-clause-refused : goal.returns-in_err-insert_new-cl
 returns-in_err-insert_new-clause-refused g c =
     let p = err_from_is_err_and c.from_residual-in_err-insert_new.result c.from_residual-in_err-insert_new.ensures.1 in
     let prefix = c.args.prefix.now in
-    let ps = pair_of (g.S.Space.form c.args.from.now).order (g.S.Space.image c.args.from.now) c.args.off in
+    let ps = pair_of (g.S.Space.form c.args.from.now).order (g.S.Space.image c.args.from.now) c.args.found.off in
     let pair = pair_held c.read_pair.new.held in
     let begins = c.starts_with.ensures.value ∙ ap (λ k. starts_with nat_eq k prefix) c.key-key.ensures in
     rw (p.1, p.2)

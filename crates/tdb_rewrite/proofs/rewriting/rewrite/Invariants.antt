@@ -2,7 +2,7 @@
 use Rattle.std.proofs.Common.{◌≡◌, ◌<◌, ◌≤◌, ◌^◌, IsTrue}
 use Rattle.std.specs.Prelude.{max}
 use Rattle.tdb_space.specs.Frame.{Looked, Wrote}
-use Rattle.tdb_rewrite.specs.Places.{to_come, most_to_come}
+use Rattle.tdb_rewrite.specs.Places.{HaveHeaders, to_come, most_to_come}
 use Rattle.tdb_rewrite.specs.Readable.{Readable}
 use Rattle.tdb_rewrite.specs.Rewritten.{IsBare}
 use Rattle.tdb_rewrite.proofs.Copied.{Ahead}
@@ -13,6 +13,7 @@ invariant-loop-held g l = record {
   ahead : IsTrue g.S.Space.tells → IsTrue g.T.Space.tells → g.T.Space.size l.fn.to < 2 ^ 32 → Readable (g.S.Space.form l.fn.from) (g.S.Space.image l.fn.from)
       → IsBare (g.T.Space.form l.fn.to) (g.T.Space.image l.fn.to)
       → Ahead (g.S.Space.form l.fn.from) (g.S.Space.image l.fn.from) l.prefix (g.T.Space.form l.fn.to) (g.T.Space.image l.to) (to_come (g.S.Space.form l.fn.from) (g.S.Space.image l.fn.from) l.places);
+  headers : IsTrue g.S.Space.tells → HaveHeaders (g.S.Space.form l.fn.from) (g.S.Space.image l.fn.from) l.places.records.items;
   below : l.places.chains ≤ (g.S.Space.form l.fn.from).chains;
   len : l.places.len ≡ g.S.Space.size l.fn.from;
   within : g.T.Space.size l.to ≤ max (g.T.Space.size l.fn.to) l.limit;

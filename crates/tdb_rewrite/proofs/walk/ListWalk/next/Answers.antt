@@ -17,6 +17,12 @@ returns-in_default-clause-gives g c told offs h =
     let at = c.args.self.now.at in
     none_there f img offs c.args.self.now h (λ whole. c.in_default.not-Some (rec_at f.order img at) (c.in_ok-rec.ensures.there told whole))
 
+pub returns-clause-header : goal.returns-clause-header
+returns-clause-header g c told =
+    let f = g.S.Space.form c.args.s.now in
+    let img = g.S.Space.image c.args.s.now in
+    subst (λ found. IfSome found (λ r. r ≡ rec_at f.order img c.args.self.now.at)) c.in-Some.is (c.in_ok-rec.ensures.header told)
+
 pub returns-clause-gives : goal.returns-clause-gives
 returns-clause-gives g c told offs h =
     let f = g.S.Space.form c.args.s.now in
