@@ -1,4 +1,3 @@
-pub mod Behinds
 pub mod Unlocked
 pub mod Laid
 pub mod Strays
@@ -15,3 +14,4 @@ pub mod Viewed
 pub mod Surveyed
 pub mod Overlays
 pub mod Overwritten
+pub mod Mends

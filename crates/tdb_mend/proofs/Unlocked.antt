@@ -15,7 +15,7 @@ use Rattle.tdb_words.proofs.SameHeader.{same_fault, same_front, same_order}
 use Rattle.tdb_words.proofs.Words.{word_agrees}
 use Rattle.tdb_space.proofs.Exchange.Overlaid.{word_length}
 use Rattle.tdb_mend.specs.Mutexes.{asks_features, database_at, mutexes_end, only_mutexes, without_mutexes}
-use Rattle.tdb_mend.proofs.Behinds.{overlay_cut}
+use Rattle.tdb_mend.proofs.Overwritten.{overlay_cut}
 
 -- the byte order, by the word at 32
 pub order_little : (img : List ℕ) → word Little img 32 ≡ version → header_order img ≡ Little

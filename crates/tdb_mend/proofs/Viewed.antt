@@ -3,7 +3,7 @@ use Rattle.std.proofs.Common.{◌≡◌, ℕ, ◌+◌, ◌<◌, ◌≤◌, not, 
 use Rattle.std.specs.Prelude.{◌==◌, zip}
 use Rattle.std.specs.List.{range_with_len}
 use Rattle.std.proofs.lemmas.Bool.{eq-eqb}
-use Rattle.std.proofs.lemmas.List.{ext_get_or, get_or-take, get_or-drop, length-take, length-drop, same_lists}
+use Rattle.std.proofs.lemmas.List.{ext_get_or, get_or-take, get_or-drop, length-take, length-drop, same_lists, drop-drop}
 use Rattle.tdb_check.proofs.Gaps.{count_no}
 use Rattle.tdb_txn.specs.Pages.{byte_over}
 use Rattle.tdb_txn.specs.Txn.{txn_pages, txn_size, txn_image}
@@ -15,6 +15,10 @@ use Rattle.tdb_mend.specs.Mended.{bytes_changed}
 use Rattle.tdb_mend.proofs.Counts.{count_parts, count_shifted, count_zipped}
 use Rattle.tdb_mend.specs.View.{view_length}
 use Rattle.tdb_mend.proofs.Pieces.{part_byte}
+
+-- a part of what stands behind an offset is a part of the whole
+pub part_behind : (xs : List ℕ) (start off n : ℕ) → take n (drop (start + off) xs) ≡ take n (drop off (drop start xs))
+part_behind xs start off n = ap (take n) (sym (drop-drop off start xs))
 
 -- a part of what is shown of a list is a part of the list
 pub part_shown : (xs : List ℕ) (len off n : ℕ) → off + n ≤ len → take n (drop off xs) ≡ take n (drop off (take len xs))

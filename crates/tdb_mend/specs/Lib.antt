@@ -6,5 +6,4 @@ pub mod Giving
 pub mod Counting
 pub mod Files
 pub mod View
-pub mod Behind
 pub mod Laws

@@ -52,10 +52,14 @@ mended_bytes m = m.changed
 abbrev pub mended_spare : MendedFile → Spare
 mended_spare m = bounded m.pages.writes m.pages.bytes 0
 
--- it is as it was, but that its pages may be stored otherwise: a file of these bytes is read as the same
-pub record SameFile (base : List ℕ) (old new : MendedFile) : Type 0 where
-  pub view : mended_view new base ≡ mended_view old base
+-- it is as long as it was, begins where it did, and has the same form
+pub record SameBounds (old new : MendedFile) : Type 0 where
   pub form : mended_form new ≡ mended_form old
   pub file : file_length new ≡ file_length old
   pub start : mended_start new ≡ mended_start old
   pub length : mended_length new ≡ mended_length old
+
+-- it is as it was, but that its pages may be stored otherwise: a file of these bytes is read as the same
+pub record SameFile (base : List ℕ) (old new : MendedFile) : Type 0 where
+  pub view : mended_view new base ≡ mended_view old base
+  pub bounds : SameBounds old new

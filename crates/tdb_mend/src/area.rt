@@ -1,6 +1,6 @@
 // The undo area of a file that is mended: where it stands, what its header says, and how it stands.
 
-ghost use Rattle.std.specs.Prelude.{◌≡◌, ◌+◌, ◌*◌, ◌^◌, ◌<◌, ◌≤◌, ◌==◌, nat_lt, IsTrue, IfOk, IfErr, None, Some, length};
+ghost use Rattle.std.specs.Prelude.{◌≡◌, ◌+◌, ◌*◌, ◌^◌, ◌<◌, ◌≤◌, nat_lt, IsTrue, IfOk, IfErr, None, Some, length};
 ghost use Rattle.tdb_disk.specs.Count.{HasCauseOf};
 ghost use Rattle.tdb_space.specs.Form.{data_start as records_from};
 ghost use Rattle.tdb_space.specs.Frame.{Looked};
@@ -8,7 +8,6 @@ ghost use Rattle.tdb_check.specs.Seen.{Names};
 ghost use Rattle.tdb_check.specs.declared.refusal.CheckRefusal.TheVariants.{Io};
 ghost use Rattle.tdb_mend.specs.Area.{header_fault_in, content_fault_in, state_fault, wide_len_of, StateSeen, OpenStands};
 ghost use Rattle.tdb_mend.specs.Giving.{content_end_of};
-ghost use Rattle.tdb_mend.specs.Mended.{padding_word};
 
 use tdb_check::{CheckRefusal, can_stand};
 use tdb_space::{Space, data_start, read_rec, read_word};
@@ -102,20 +101,6 @@ impl UndoArea {
         }
     }
 
-    /// Whether no header was written yet: where its gate word would stand there is padding.
-    fn lacks_header(&self) -> bool
-        ensures { result ≡ (self.now.header.magic == padding_word) }
-    {
-        self.header.magic == PADDING_WORD
-    }
-
-    /// Whether its gate is open.
-    fn gate_is_open(&self) -> bool
-        ensures { result ≡ (self.now.header.magic == GATE_OPEN) }
-    {
-        self.header.magic == GATE_OPEN
-    }
-
     /// What is wrong with its header in a file of `len` bytes, whatever it keeps.
     fn header_fault(&self, len: u64) -> Option<(What, u64)>
         ensures { result ≡ header_fault_in self.now len }
@@ -167,14 +152,14 @@ pub(crate) fn read_state<S: Space>(s: &mut S, len: u64) -> Result<AreaState, Che
         });
     }
     let header = read_rec(s, at as u64)?;
-    let area = UndoArea { at, header };
-    if area.lacks_header() {
+    if header.magic == PADDING_WORD {
         return Ok(AreaState::WithoutHeader);
     }
+    let area = UndoArea { at, header };
     if let Some((what, at)) = area.header_fault(len) {
         return Err(CheckRefusal::Corrupt { what, at });
     }
-    if area.gate_is_open() {
+    if header.magic == GATE_OPEN {
         return Ok(AreaState::Open(area));
     }
     Ok(AreaState::Still)

@@ -4,6 +4,7 @@ ghost use Rattle.std.specs.Prelude.{◌≡◌, ◌-◌, ◌≤◌, IsTrue, IfOk,
 ghost use Rattle.std.specs.List.Sorted.{IsNonDecreasingBy};
 ghost use Rattle.tdb_disk.specs.Count.{HasCause};
 ghost use Rattle.tdb_disk.specs.History.{seen};
+ghost use Rattle.tdb_space.specs.DiskState.{disk_state};
 ghost use Rattle.tdb_space.specs.Form.{data_start as records_from};
 ghost use Rattle.tdb_space.specs.Frame.{Looked};
 ghost use Rattle.tdb_check.specs.Extent.{extents_seen, off_of};
@@ -13,7 +14,6 @@ ghost use Rattle.tdb_mend.specs.Mended.{bytes_changed};
 ghost use Rattle.tdb_mend.specs.View.{file_length, mended_length, mended_start, mended_view, SameFile};
 
 use crate::file::MendedFile;
-use crate::view::read_shown;
 use tdb_check::Extent;
 use tdb_disk::Disk;
 use tdb_space::{Io, Space, data_start};
@@ -104,9 +104,7 @@ pub(crate) fn count_changed<D: Disk>(file: &mut MendedFile, d: &mut D) -> Result
     ensures count { IfOk result (λ n. IsTrue D.tells → let a = seen (D.history d.old) in n ≡ bytes_changed (drop (mended_start file.old) a) (mended_view file.old a)) }
     ensures most { IfOk result (λ n. n ≤ mended_length file.old) }
     ensures same { SameFile (seen (D.history d.old)) file.old file.new }
-    ensures history { D.history d.new ≡ D.history d.old }
-    ensures size { D.size d.new ≡ D.size d.old }
-    ensures syncs { D.syncs d.new ≡ D.syncs d.old }
+    ensures disk { disk_state (D.history d.new) (D.size d.new) (D.syncs d.new) ≡ disk_state (D.history d.old) (D.size d.old) (D.syncs d.old) }
     ensures cause { HasCause (D.faults d.old) (D.faults d.new) result }
 {
     if file.pages.pages() == 0 {
@@ -121,7 +119,7 @@ pub(crate) fn count_changed<D: Disk>(file: &mut MendedFile, d: &mut D) -> Result
     while at < len {
         let size = (len - at).min(BLOCK as u64) as usize;
         let shown = &mut now[..size];
-        read_shown(file, d, at, shown)?;
+        file.read(d, at, shown)?;
         let stored = &mut before[..size];
         d.read(start + at, stored)?;
         changed += count_differences(stored, shown);

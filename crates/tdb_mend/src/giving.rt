@@ -12,6 +12,7 @@ ghost use Rattle.tdb_mend.specs.WideUndo.{unparsed};
 ghost use Rattle.tdb_mend.specs.Giving.{content_end_of, entries_of, gives, GivenBack};
 
 use crate::area::UndoArea;
+use crate::copy_on_write::CopyOnWrite;
 use tdb_check::CheckRefusal;
 use tdb_space::{Io, Space};
 use tdb_words::{What, word_in};
@@ -38,7 +39,7 @@ fn entry_words<S: Space>(s: &mut S, place: u64) -> Result<(u32, u32), Io>
 
 /// Copies what an entry keeps of the bytes from one offset up to another. Its old bytes, the first of them for `off`,
 /// stand at `source`, and none of them among the bytes that are written. A block serves for the copy.
-fn give_piece<S: Space>(
+fn give_piece<S: CopyOnWrite>(
     s: &mut S,
     source: u64,
     off: u64,
@@ -63,8 +64,7 @@ fn give_piece<S: Space>(
         let size = (to - at).min(BLOCK as u64);
         let piece = &mut block[..size as usize];
         s.read(source + (at - off), piece)?;
-        s.ready(1, size)?;
-        s.write(at, piece)?;
+        s.put(at, piece)?;
         at += size;
     }
     Ok(())
@@ -72,7 +72,7 @@ fn give_piece<S: Space>(
 
 /// Gives back what an entry keeps: its old bytes stand at `source`, within the undo area. Left out are the undo area
 /// itself and all from the old length of the file on.
-fn give_entry<S: Space>(
+fn give_entry<S: CopyOnWrite>(
     s: &mut S,
     area: &UndoArea,
     source: u64,
@@ -103,7 +103,7 @@ fn give_entry<S: Space>(
 /// Gives back what the entries of the undo area keep, one after the other, below the old length of the file and beside
 /// the area; a later one over an earlier one. An entry that passes the end of the content is refused, and those behind
 /// it aren't looked at; what was given back before it stays.
-pub(crate) fn give_back<S: Space>(s: &mut S, area: &UndoArea) -> Result<(), CheckRefusal>
+pub(crate) fn give_back<S: CopyOnWrite>(s: &mut S, area: &UndoArea) -> Result<(), CheckRefusal>
     requires room { area.now.at + 24 + area.now.header.rec_len ≤ S.size s.old }
     requires content { area.now.header.data_len ≤ area.now.header.rec_len }
     requires old_length { area.now.header.key_len ≤ S.size s.old }

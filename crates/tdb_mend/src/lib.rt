@@ -3,7 +3,7 @@
 #![tactic(auto)]
 
 mod area;
-mod behind;
+mod copy_on_write;
 mod counting;
 mod file;
 mod giving;

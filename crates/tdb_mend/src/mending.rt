@@ -1,23 +1,21 @@
 // A damaged file is read as the stock library would read it.
 
-ghost use Rattle.std.specs.Prelude.{◌≡◌, ◌+◌, ◌-◌, ◌%◌, ◌^◌, ◌<◌, ◌≤◌, IsTrue, IfOk, IfErr, None, Some, take, drop};
+ghost use Rattle.std.specs.Prelude.{◌≡◌, ◌+◌, ◌%◌, ◌^◌, ◌<◌, ◌≤◌, IsTrue, IfOk, IfErr, None, Some, take, drop};
 ghost use Rattle.tdb_disk.specs.Count.{HasCauseOf, RoseUpTo};
 ghost use Rattle.tdb_disk.specs.History.{Tried, seen, synced};
 ghost use Rattle.tdb_words.specs.Header.{header_at, HeaderOk};
 ghost use Rattle.tdb_space.specs.Accepted.{Accept};
+ghost use Rattle.tdb_space.specs.DiskState.{disk_state};
 ghost use Rattle.tdb_space.specs.Form.{form_in, form_of, data_start};
 ghost use Rattle.tdb_space.specs.FirstFault.{front_fault};
-ghost use Rattle.tdb_space.specs.Frame.{Looked};
 ghost use Rattle.tdb_space.specs.Pairs.{order_of};
 ghost use Rattle.tdb_rewrite.specs.Readable.{Readable};
 ghost use Rattle.tdb_check.specs.Report.{IsFormOf};
 ghost use Rattle.tdb_check.specs.Seen.{Names};
 ghost use Rattle.tdb_check.specs.declared.refusal.CheckRefusal.TheVariants.{Io};
 ghost use Rattle.tdb_mend.specs.Mended.{mend_fault, read_as, mended, bytes_changed, strays, bytes_mended, HasHeader, IsFirstButStrays, IsSoundButStrays, CanBeMended, IsMendFault};
-ghost use Rattle.tdb_txn.specs.Txn.{txn_image, txn_size, txn_start};
 ghost use Rattle.tdb_mend.specs.View.{file_length, mended_length, mended_start, mended_view, mended_header, mended_form, mended_bytes, SameFile};
 
-use crate::behind::Behind;
 use crate::counting::count_changed;
 use crate::file::MendedFile;
 use crate::mutexes::{Database, HEADER_LEN};
@@ -27,55 +25,31 @@ use crate::view::MendedView;
 use std::alloc::Global;
 use tdb_check::CheckRefusal;
 use tdb_disk::Disk;
-use tdb_space::Space;
 use tdb_txn::Txn;
 use tdb_words::{Header, What, header_of};
 
-/// What the header says with which a view begins, whatever the view says of it. It reads 168 bytes.
-fn read_header<S: Space>(s: &mut S) -> Result<Header, CheckRefusal>
-    requires { 168 ≤ S.size s.old }
-    ensures header { IfOk result (λ h. IsTrue S.tells → HeaderOk (S.image s.old) × (h ≡ header_at (S.image s.old))) }
-    ensures chains { IfOk result (λ h. 0 < h.hash_size) }
-    ensures refused { IfErr result (λ e. IsTrue S.tells → Names e (λ fault. front_fault (S.image s.old) ≡ Some fault)) }
-    ensures looked { Looked S.Space s.old s.new }
-    ensures cause { HasCauseOf Io (S.faults s.old) (S.faults s.new) result }
-{
-    let mut bytes = [0u8; HEADER_LEN];
-    s.read(0, &mut bytes)?;
-    match header_of(&bytes) {
-        Ok(header) => Ok(header),
-        Err(_fault) => Err(CheckRefusal::Corrupt {
-            what: What::Header,
-            at: 0,
-        }),
-    }
-}
-
-/// Makes pages over a file what its database is read as, before its stray bytes are looked at, and answers how many
-/// bytes of it are left (`undo_in`).
-fn undo_pages<D: Disk>(pages: &mut Txn, d: &mut D, database: &Database) -> Result<u64, CheckRefusal>
-    requires sized { D.size d.old ≡ txn_start pages.old }
-    requires heads { database.now.start + data_start (form_in database.now.header) ≤ txn_size pages.old }
-    requires short { txn_size pages.old < 2 ^ 64 }
-    requires aligned { database.now.start % 4 ≡ 0 }
-    ensures within { IfOk result (λ left. left ≤ txn_size pages.old - database.now.start) }
-    ensures reaches { IfOk result (λ left. data_start (form_in database.now.header) ≤ left) }
-    ensures read { IfOk result (λ left. IsTrue D.tells → let base = seen (D.history d.old) in let a = drop database.now.start (txn_image pages.old base) in form_in database.now.header ≡ form_of a
-        → (mend_fault (form_in database.now.header) a ≡ None) × (take left (drop database.now.start (txn_image pages.new base)) ≡ read_as a)) }
-    ensures bad { IfErr result (λ e. IsTrue D.tells → let a = drop database.now.start (txn_image pages.old (seen (D.history d.old))) in form_in database.now.header ≡ form_of a
-        → Names e (λ fault. mend_fault (form_in database.now.header) a ≡ Some fault)) }
-    ensures start { txn_start pages.new ≡ txn_start pages.old }
-    ensures length { txn_size pages.new ≡ txn_size pages.old }
-    ensures history { D.history d.new ≡ D.history d.old }
-    ensures size { D.size d.new ≡ D.size d.old }
-    ensures syncs { D.syncs d.new ≡ D.syncs d.old }
+/// Makes a file what its database is read as, before its stray bytes are looked at, and answers how many bytes of it are
+/// left (`undo_in`).
+fn undo_file<D: Disk>(file: &mut MendedFile, d: &mut D) -> Result<u64, CheckRefusal>
+    requires sized { D.size d.old ≡ file_length file.old }
+    requires heads { data_start (mended_form file.old) ≤ mended_length file.old }
+    ensures within { IfOk result (λ left. left ≤ mended_length file.old) }
+    ensures reaches { IfOk result (λ left. data_start (mended_form file.old) ≤ left) }
+    ensures read { IfOk result (λ left. IsTrue D.tells → let base = seen (D.history d.old) in let a = mended_view file.old base in mended_form file.old ≡ form_of a
+        → (mend_fault (mended_form file.old) a ≡ None) × (take left (mended_view file.new base) ≡ read_as a)) }
+    ensures bad { IfErr result (λ e. IsTrue D.tells → let a = mended_view file.old (seen (D.history d.old)) in mended_form file.old ≡ form_of a
+        → Names e (λ fault. mend_fault (mended_form file.old) a ≡ Some fault)) }
+    ensures file { file_length file.new ≡ file_length file.old }
+    ensures start { mended_start file.new ≡ mended_start file.old }
+    ensures length { mended_length file.new ≡ mended_length file.old }
+    ensures disk { disk_state (D.history d.new) (D.size d.new) (D.syncs d.new) ≡ disk_state (D.history d.old) (D.size d.old) (D.syncs d.old) }
     ensures cause { HasCauseOf Io (D.faults d.old) (D.faults d.new) result }
 {
-    let mut view = Behind::new(pages, d, database);
+    let mut view = MendedView::new(file, d);
     undo_in(&mut view)
 }
 
-/// What the header says with which a mended file begins (`read_header`).
+/// What the header says with which a file begins, whatever the file says of it. It reads 168 bytes.
 fn shown_header<D: Disk>(file: &mut MendedFile, d: &mut D) -> Result<Header, CheckRefusal>
     requires sized { D.size d.old ≡ file_length file.old }
     requires long { 168 ≤ mended_length file.old }
@@ -83,13 +57,18 @@ fn shown_header<D: Disk>(file: &mut MendedFile, d: &mut D) -> Result<Header, Che
     ensures chains { IfOk result (λ h. 0 < h.hash_size) }
     ensures refused { IfErr result (λ e. IsTrue D.tells → Names e (λ fault. front_fault (mended_view file.old (seen (D.history d.old))) ≡ Some fault)) }
     ensures same { SameFile (seen (D.history d.old)) file.old file.new }
-    ensures history { D.history d.new ≡ D.history d.old }
-    ensures size { D.size d.new ≡ D.size d.old }
-    ensures syncs { D.syncs d.new ≡ D.syncs d.old }
+    ensures disk { disk_state (D.history d.new) (D.size d.new) (D.syncs d.new) ≡ disk_state (D.history d.old) (D.size d.old) (D.syncs d.old) }
     ensures cause { HasCauseOf Io (D.faults d.old) (D.faults d.new) result }
 {
-    let mut view = MendedView::new(file, d);
-    read_header(&mut view)
+    let mut bytes = [0u8; HEADER_LEN];
+    file.read(d, 0, &mut bytes)?;
+    match header_of(&bytes) {
+        Ok(header) => Ok(header),
+        Err(_fault) => Err(CheckRefusal::Corrupt {
+            what: What::Header,
+            at: 0,
+        }),
+    }
 }
 
 /// What the database of a damaged file is read as: pages over the file that hold what its undo area gives back. They lie
@@ -113,11 +92,10 @@ fn read_mended<D: Disk>(
     ensures cause { HasCauseOf Io (D.faults d.old) (D.faults d.new) result }
     ensures syncs { RoseUpTo 1 (D.syncs d.old) (D.syncs d.new) }
 {
-    let Ok(started) = Txn::start(alloc, d, &database.header) else {
+    let Ok(pages) = Txn::start(alloc, d, &database.header) else {
         return Err(CheckRefusal::Io);
     };
-    let mut pages = started;
-    let len = undo_pages(&mut pages, d, database)?;
+    let len = pages.length() - database.start;
     let mut file = MendedFile {
         pages,
         start: database.start,
@@ -125,6 +103,8 @@ fn read_mended<D: Disk>(
         len,
         changed: 0,
     };
+    let left = undo_file(&mut file, d)?;
+    file.len = left;
     let header = shown_header(&mut file, d)?;
     file.header = header;
     Ok(file)
@@ -143,9 +123,7 @@ fn survey_file<D: Disk>(
         → Names e (IsFirstButStrays b)) }
     ensures most { IfOk result (λ n. n ≤ mended_length file.old) }
     ensures same { SameFile (seen (D.history d.old)) file.old file.new }
-    ensures history { D.history d.new ≡ D.history d.old }
-    ensures size { D.size d.new ≡ D.size d.old }
-    ensures syncs { D.syncs d.new ≡ D.syncs d.old }
+    ensures disk { disk_state (D.history d.new) (D.size d.new) (D.syncs d.new) ≡ disk_state (D.history d.old) (D.size d.old) (D.syncs d.old) }
     ensures cause { HasCauseOf Io (D.faults d.old) (D.faults d.new) result }
 {
     let mut view = MendedView::new(file, d);
@@ -166,9 +144,7 @@ fn count_mended<D: Disk>(
     ensures first_fault { IfErr result (λ e. IsTrue D.tells → let b = mended_view file.old (seen (D.history d.old)) in IsFormOf (mended_form file.old) b
         → Names e (IsFirstButStrays b)) }
     ensures same { SameFile (seen (D.history d.old)) file.old file.new }
-    ensures history { D.history d.new ≡ D.history d.old }
-    ensures size { D.size d.new ≡ D.size d.old }
-    ensures syncs { D.syncs d.new ≡ D.syncs d.old }
+    ensures disk { disk_state (D.history d.new) (D.size d.new) (D.syncs d.new) ≡ disk_state (D.history d.old) (D.size d.old) (D.syncs d.old) }
     ensures cause { HasCauseOf Io (D.faults d.old) (D.faults d.new) result }
 {
     let stray = survey_file(alloc, file, d)?;

@@ -1,6 +1,6 @@
 // Where the database of a file begins: at 0, or behind the mutexes that its header tells of.
 
-ghost use Rattle.std.specs.Prelude.{◌≡◌, ◌+◌, ◌%◌, ◌<◌, ◌≤◌, IsTrue, IfOk, IfErr, Some, drop};
+ghost use Rattle.std.specs.Prelude.{◌≡◌, ◌+◌, ◌%◌, ◌<◌, ◌≤◌, IsTrue, IfOk, IfErr, drop};
 ghost use Rattle.tdb_disk.specs.Count.{HasCause, HasCauseOf};
 ghost use Rattle.tdb_disk.specs.History.{seen};
 ghost use Rattle.tdb_words.specs.Header.{header_fault, header_order};
@@ -67,28 +67,11 @@ fn mutexes_end(bytes: &[u8; HEADER_LEN]) -> u32
     }
 }
 
-/// Whether a header that is refused so asks for features.
-fn is_for_features(fault: HeaderFault) -> bool
-    ensures { result ≡ asks_features (Some fault) }
-{
-    match fault {
-        HeaderFault::Mutexes => true,
-        HeaderFault::NotTdb => false,
-        HeaderFault::Version => false,
-        HeaderFault::OldLocks => false,
-        HeaderFault::UnknownHash => false,
-        HeaderFault::NoBuckets => false,
-    }
-}
-
 /// Whether a header is refused for the features that it asks for.
 fn has_features(bytes: &[u8; HEADER_LEN]) -> bool
     ensures { result ≡ asks_features (header_fault bytes.now) }
 {
-    match header_of(bytes) {
-        Ok(_) => false,
-        Err(fault) => is_for_features(fault),
-    }
+    matches!(header_of(bytes), Err(HeaderFault::Mutexes))
 }
 
 /// Where the database begins by a header: behind the mutexes, where it tells of these and of no other feature, and else

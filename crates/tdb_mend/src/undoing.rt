@@ -1,8 +1,7 @@
 // A view of a damaged file is made what the file is read as, before its stray bytes are looked at.
 
-ghost use Rattle.std.specs.Prelude.{◌≡◌, ◌+◌, ◌%◌, ◌<◌, ◌≤◌, ℕ, nat_le, IsTrue, IfOk, IfErr, OnOk, None, Some, length, slice_index, take, if◌then◌else◌};
+ghost use Rattle.std.specs.Prelude.{◌≡◌, ◌+◌, ◌<◌, ◌≤◌, ℕ, nat_le, IsTrue, IfOk, IfErr, OnOk, None, Some, length, slice_index, take, if◌then◌else◌};
 ghost use Rattle.tdb_disk.specs.Count.{HasCause, HasCauseOf};
-ghost use Rattle.tdb_disk.specs.Image.{overlay};
 ghost use Rattle.tdb_space.specs.Form.{form_of, data_start};
 ghost use Rattle.tdb_space.specs.Frame.{Looked, Wrote};
 ghost use Rattle.tdb_check.specs.Seen.{Names};
@@ -13,26 +12,12 @@ ghost use Rattle.tdb_mend.specs.Mutexes.{without_mutexes};
 ghost use Rattle.tdb_mend.specs.Area.{area_of, wide_len_of, Stands};
 
 use crate::area::{AREA_HEAD, AreaState, UndoArea, read_state};
+use crate::copy_on_write::CopyOnWrite;
 use crate::giving::give_back;
 use crate::mutexes::{FEATURES, HEADER_LEN, database_at};
 use tdb_check::CheckRefusal;
 use tdb_space::{Io, Space};
 use tdb_words::{GATE_SHUT, word_bytes};
-
-/// Writes the bytes of an aligned word. It makes room for it first.
-fn put_word<S: Space>(s: &mut S, at: u64, bytes: [u8; 4]) -> Result<(), CheckRefusal>
-    requires aligned { at % 4 ≡ 0 }
-    requires within { at + 4 ≤ S.size s.old }
-    ensures set { OnOk result (IsTrue S.tells → S.image s.new ≡ overlay (S.image s.old) at bytes) }
-    ensures refusal { IfErr result (λ e. Names e (λ _. ⊥)) }
-    ensures wrote { Wrote S.Space s.old s.new }
-    ensures size { S.size s.new ≡ S.size s.old }
-    ensures cause { HasCauseOf DiskFailed (S.faults s.old) (S.faults s.new) result }
-{
-    s.ready(1, 4)?;
-    s.write_word(at, bytes)?;
-    Ok(())
-}
 
 /// The word at 44 as an undo leaves it: as it is where the area stays, and else 0.
 fn area_head_left<S: Space>(s: &mut S, area: &UndoArea) -> Result<[u8; 4], Io>
@@ -53,7 +38,7 @@ fn area_head_left<S: Space>(s: &mut S, area: &UndoArea) -> Result<[u8; 4], Io>
 
 /// Undoes what an undo area keeps whose gate is open, in a view of `len` bytes. Answers how many of them are left. The
 /// word at 44 leads to the area where that stays, and is 0 otherwise; its gate is shut.
-fn undo_widely<S: Space>(s: &mut S, area: &UndoArea, len: u64) -> Result<u64, CheckRefusal>
+fn undo_widely<S: CopyOnWrite>(s: &mut S, area: &UndoArea, len: u64) -> Result<u64, CheckRefusal>
     requires length { len ≡ S.size s.old }
     requires heads { data_start (S.form s.old) ≤ len }
     requires stands { Stands (data_start (S.form s.old)) len area.now }
@@ -73,15 +58,15 @@ fn undo_widely<S: Space>(s: &mut S, area: &UndoArea, len: u64) -> Result<u64, Ch
     }
     let head = area_head_left(s, area)?;
     give_back(s, area)?;
-    put_word(s, AREA_HEAD, head)?;
+    s.put(AREA_HEAD, &head)?;
     let shut = word_bytes(GATE_SHUT, s.order());
-    put_word(s, area.gate(), shut)?;
+    s.put(area.gate(), &shut)?;
     Ok(area.wide_len())
 }
 
 /// Makes a view what its undo area leaves of it: what an open gate keeps is given back, and an area without a header
 /// counts as none. Answers how many bytes are left. After a refusal the view is of no use.
-fn undo_area<S: Space>(s: &mut S) -> Result<u64, CheckRefusal>
+fn undo_area<S: CopyOnWrite>(s: &mut S) -> Result<u64, CheckRefusal>
     requires heads { data_start (S.form s.old) ≤ S.size s.old }
     ensures within { IfOk result (λ left. left ≤ S.size s.old) }
     ensures reaches { IfOk result (λ left. data_start (S.form s.old) ≤ left) }
@@ -98,7 +83,7 @@ fn undo_area<S: Space>(s: &mut S) -> Result<u64, CheckRefusal>
         AreaState::Still => Ok(len),
         AreaState::WithoutHeader => {
             let none = word_bytes(0, s.order());
-            put_word(s, AREA_HEAD, none)?;
+            s.put(AREA_HEAD, &none)?;
             Ok(len)
         }
         AreaState::Open(area) => undo_widely(s, &area, len),
@@ -106,7 +91,7 @@ fn undo_area<S: Space>(s: &mut S) -> Result<u64, CheckRefusal>
 }
 
 /// Makes the word for features 0 where the header of a view says that it has mutexes and no other feature.
-fn unlock<S: Space>(s: &mut S) -> Result<(), CheckRefusal>
+fn unlock<S: CopyOnWrite>(s: &mut S) -> Result<(), CheckRefusal>
     requires heads { 168 ≤ S.size s.old }
     ensures set { OnOk result (IsTrue S.tells → (n : ℕ) → 168 ≤ n → n ≤ S.size s.old → take n (S.image s.new) ≡ without_mutexes (take n (S.image s.old))) }
     ensures refusal { IfErr result (λ e. Names e (λ _. ⊥)) }
@@ -117,14 +102,14 @@ fn unlock<S: Space>(s: &mut S) -> Result<(), CheckRefusal>
     let mut bytes = [0u8; HEADER_LEN];
     s.read(0, &mut bytes)?;
     if database_at(&bytes) != 0 {
-        put_word(s, FEATURES as u64, [0; 4])?;
+        s.put(FEATURES as u64, &[0; 4])?;
     }
     Ok(())
 }
 
 /// Makes a view what its database is read as, as far as its undo area (`undo_area`) and the word for features tell.
 /// Answers how many bytes are left. After a refusal the view is of no use.
-pub(crate) fn undo_in<S: Space>(s: &mut S) -> Result<u64, CheckRefusal>
+pub(crate) fn undo_in<S: CopyOnWrite>(s: &mut S) -> Result<u64, CheckRefusal>
     requires heads { data_start (S.form s.old) ≤ S.size s.old }
     ensures within { IfOk result (λ left. left ≤ S.size s.old) }
     ensures reaches { IfOk result (λ left. data_start (S.form s.old) ≤ left) }

@@ -1,18 +1,14 @@
 // What a mended file tells of itself, and the view of it.
 
-ghost use Rattle.std.specs.Prelude.{◌≡◌, ◌+◌, ◌≤◌, ◌%◌, ◌⊎◌, [], ◌∷◌, false, IsTrue, OnOk, MatchResult, length, take, drop};
-ghost use Rattle.tdb_disk.specs.Count.{HasCause, RoseUpTo};
+ghost use Rattle.std.specs.Prelude.{◌≡◌, [], ◌∷◌, false};
 ghost use Rattle.tdb_disk.specs.History.{seen};
 ghost use Rattle.tdb_space.specs.DiskState.{disk_state};
-ghost use Rattle.tdb_disk.specs.Image.{overlay};
-ghost use Rattle.tdb_disk.specs.Stop.{Torn};
-ghost use Rattle.tdb_space.specs.Spare.{RoomFor, spent, SpentUpTo};
-ghost use Rattle.tdb_mend.specs.View.{file_length, mended_length, mended_start, mended_view, mended_header, mended_form, mended_bytes, mended_spare, SameFile};
-ghost use Rattle.tdb_mend.specs.View.{view_length};
+ghost use Rattle.tdb_mend.specs.View.{file_length, mended_length, mended_start, mended_view, mended_header, mended_form, mended_bytes, mended_spare, view_length};
 
+use crate::copy_on_write::CopyOnWrite;
 use crate::file::MendedFile;
-use crate::pages::{read_pages, write_page_word, write_pages};
 use std::alloc::AllocError;
+use tdb_check::CheckRefusal;
 use tdb_disk::Disk;
 use tdb_space::{Io, Space};
 use tdb_words::{HashKind, Header, Order};
@@ -32,81 +28,6 @@ impl MendedFile {
     {
         self.changed
     }
-}
-
-/// Fills `buf` with the bytes that a file is read as, from offset `off` on.
-pub(crate) fn read_shown<D: Disk>(
-    file: &mut MendedFile,
-    d: &mut D,
-    off: u64,
-    buf: &mut [u8],
-) -> Result<(), Io>
-    requires sized { D.size d.old ≡ file_length file.old }
-    requires within { off + length buf.old ≤ mended_length file.old }
-    ensures bytes { OnOk result (IsTrue D.tells → buf.new ≡ take (length buf.old) (drop off (mended_view file.old (seen (D.history d.old))))) }
-    ensures same { SameFile (seen (D.history d.old)) file.old file.new }
-    ensures spare { mended_spare file.new ≡ mended_spare file.old }
-    ensures history { D.history d.new ≡ D.history d.old }
-    ensures size { D.size d.new ≡ D.size d.old }
-    ensures syncs { D.syncs d.new ≡ D.syncs d.old }
-    ensures cause { HasCause (D.faults d.old) (D.faults d.new) result }
-    ensures bytes_read { RoseUpTo (length buf.old) (D.bytes_read d.old) (D.bytes_read d.new) }
-{
-    if file.pages.pages() == 0 {
-        d.read(file.start + off, buf)?;
-        return Ok(());
-    }
-    read_pages(&mut file.pages, d, file.start + off, buf)
-}
-
-/// Writes `bytes` at offset `off` over what a file is read as, into its pages.
-fn write_shown<D: Disk>(file: &mut MendedFile, d: &mut D, off: u64, bytes: &[u8]) -> Result<(), Io>
-    requires sized { D.size d.old ≡ file_length file.old }
-    requires within { off + length bytes.now ≤ mended_length file.old }
-    requires room { RoomFor (mended_spare file.old) (length bytes.now) }
-    ensures image { IsTrue D.tells → let base = seen (D.history d.old) in MatchResult result (λ _. mended_view file.new base ≡ overlay (mended_view file.old base) off bytes.now)
-        (λ _. Torn off (length bytes.now) (mended_view file.old base) (mended_view file.new base)) }
-    ensures spare { MatchResult result (λ _. mended_spare file.new ≡ spent (mended_spare file.old) (length bytes.now))
-        (λ _. SpentUpTo (mended_spare file.old) (length bytes.now) (mended_spare file.new)) }
-    ensures form { mended_form file.new ≡ mended_form file.old }
-    ensures file { file_length file.new ≡ file_length file.old }
-    ensures start { mended_start file.new ≡ mended_start file.old }
-    ensures length { mended_length file.new ≡ mended_length file.old }
-    ensures history { D.history d.new ≡ D.history d.old }
-    ensures size { D.size d.new ≡ D.size d.old }
-    ensures syncs { D.syncs d.new ≡ D.syncs d.old }
-    ensures cause { HasCause (D.faults d.old) (D.faults d.new) result }
-    ensures bytes_read { RoseUpTo (length bytes.now + 8192) (D.bytes_read d.old) (D.bytes_read d.new) }
-{
-    write_pages(&mut file.pages, d, file.start + off, bytes)
-}
-
-/// Writes the four bytes of an aligned word over what a file is read as, into its pages.
-fn write_shown_word<D: Disk>(
-    file: &mut MendedFile,
-    d: &mut D,
-    off: u64,
-    word: [u8; 4],
-) -> Result<(), Io>
-    requires sized { D.size d.old ≡ file_length file.old }
-    requires aligned { off % 4 ≡ 0 }
-    requires within { off + 4 ≤ mended_length file.old }
-    requires room { RoomFor (mended_spare file.old) 4 }
-    ensures image { IsTrue D.tells → let base = seen (D.history d.old) in MatchResult result (λ _. mended_view file.new base ≡ overlay (mended_view file.old base) off word)
-        (λ _. (mended_view file.new base ≡ mended_view file.old base) ⊎ (mended_view file.new base ≡ overlay (mended_view file.old base) off word)) }
-    ensures spare { MatchResult result (λ _. mended_spare file.new ≡ spent (mended_spare file.old) 4)
-        (λ _. SpentUpTo (mended_spare file.old) 4 (mended_spare file.new)) }
-    ensures form { mended_form file.new ≡ mended_form file.old }
-    ensures file { file_length file.new ≡ file_length file.old }
-    ensures start { mended_start file.new ≡ mended_start file.old }
-    ensures length { mended_length file.new ≡ mended_length file.old }
-    ensures history { D.history d.new ≡ D.history d.old }
-    ensures size { D.size d.new ≡ D.size d.old }
-    ensures syncs { D.syncs d.new ≡ D.syncs d.old }
-    ensures cause { HasCause (D.faults d.old) (D.faults d.new) result }
-    ensures bytes_read { RoseUpTo (4 + 8192) (D.bytes_read d.old) (D.bytes_read d.new) }
-{
-    write_page_word(&mut file.pages, d, file.start + off, word)
 }
 
 /// The view of a mended file over the file that it was read of. What is written to it goes into the pages in memory, and
@@ -172,15 +93,15 @@ impl<'a, D: Disk> Space for MendedView<'a, D> {
     }
 
     fn read(&mut self, off: u64, buf: &mut [u8]) -> Result<(), Io> {
-        read_shown(self.file, self.disk, off, buf)
+        self.file.read(self.disk, off, buf)
     }
 
     fn write(&mut self, off: u64, bytes: &[u8]) -> Result<(), Io> {
-        write_shown(self.file, self.disk, off, bytes)
+        self.file.write(self.disk, off, bytes)
     }
 
     fn write_word(&mut self, off: u64, w: [u8; 4]) -> Result<(), Io> {
-        write_shown_word(self.file, self.disk, off, w)
+        self.file.write_word(self.disk, off, w)
     }
 
     fn grow(&mut self, _to: u64) -> Result<(), Io> {
@@ -192,4 +113,10 @@ impl<'a, D: Disk> Space for MendedView<'a, D> {
     }
 
     ghost told_size = { λ s _. view_length s.file.now (seen (D.history s.disk.now)) };
+}
+
+impl<'a, D: Disk> CopyOnWrite for MendedView<'a, D> {
+    fn put(&mut self, off: u64, bytes: &[u8]) -> Result<(), CheckRefusal> {
+        self.file.put(self.disk, off, bytes)
+    }
 }

@@ -4,7 +4,6 @@ use Rattle.std.specs.Prelude.{slice_index}
 use Rattle.std.proofs.lemmas.List.{length-take}
 use Rattle.tdb_disk.specs.Image.{overlay}
 use Rattle.tdb_space.specs.Opening.{lies_in}
-use Rattle.tdb_space.proofs.SpareLeft.Rooms.{room_for}
 use Rattle.tdb_undo.specs.Torn.{Put}
 use Rattle.tdb_mend.proofs.Pieces.{piece_none, piece_more, piece_all}
 use Rattle.tdb_mend.proofs.giving.give_piece.Goals as goal
@@ -18,11 +17,6 @@ loop-at-init g c = record {
   size = search rules;
   faults = search rules;
 }
-
-pub write-requires-clause-room : goal.write-requires-clause-room
-write-requires-clause-room g c =
-    let sized : length c.read.new.buf ≡ c.min-size.result = c.read.auto.buf ∙ omega (arith, length-take c.min-size.result c.loop-at.block, c.min-size.ensures) in
-    room_for (g.S.Space.spare c.ready.new.self) 1 c.min-size.result c.in_ok-ready.ensures.room.each (omega arith) (length c.read.new.buf) (omega (arith, sized))
 
 pub loop-at-preserved : goal.loop-at-preserved
 loop-at-preserved g c =
@@ -41,7 +35,7 @@ loop-at-preserved g c =
           let read : c.read.new.buf ≡ take c.min-size.result (drop (c.args.source + (c.loop-at.at - c.args.off)) (g.S.Space.image c.loop-at.s)) =
           c.in_ok-read.ensures.bytes told ∙ ap (λ n. take n (drop (c.args.source + (c.loop-at.at - c.args.off)) (g.S.Space.image c.loop-at.s))) (sym c.read.auto.buf ∙ sized) in
           subst (Put (lies_in c.args.from (c.loop-at.at + c.min-size.result - c.args.from)) (λ i. slice_index first (c.args.source + (i - c.args.off))) first)
-          (sym (c.in_ok-write.ensures.image told ∙ ap (λ img. overlay img c.loop-at.at c.read.new.buf) (c.ready.ensures.image ∙ c.read.ensures.image)))
+          (sym (c.in_ok-put.ensures.set told ∙ ap (λ img. overlay img c.loop-at.at c.read.new.buf) c.read.ensures.image))
           (piece_more c.args.source c.args.off c.args.from c.args.to at size first now c.read.new.buf c.requires.above v.from fits (omega (arith, long, c.requires.target_within)) (omega (arith, long, c.requires.source_within))
           c.requires.apart (v.put told) read));
       wrote = search rules;

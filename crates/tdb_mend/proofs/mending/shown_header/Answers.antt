@@ -1,28 +1,28 @@
--- The view of the file shows it over its disk, and leaves both as they are.
-use Rattle.std.proofs.Common.{◌≡◌, ◌≤◌, sym, ◌∙◌, ap, subst}
+-- What the bytes that were read say of the front.
+use Rattle.std.proofs.Common.{◌≡◌, ◌≤◌, length, take, drop, ◌∙◌, ap, arith}
 use Rattle.tdb_disk.specs.History.{seen}
-use Rattle.tdb_mend.specs.View.{mended_form, mended_length, mended_start, mended_view, SameFile}
-use Rattle.tdb_mend.proofs.Overlays.{first_name, third_name}
+use Rattle.tdb_space.proofs.FirstFault.Agreed.{chains_some}
+use Rattle.tdb_check.proofs.Fronts.{front_header, header_whole, header_read}
+use Rattle.tdb_mend.specs.View.{mended_view, view_length}
 use Rattle.tdb_mend.proofs.mending.shown_header.Goals as goal
 
-pub returns-clause-same : goal.returns-clause-same
-returns-clause-same g c =
+pub returns-in-Ok-clause-header : goal.returns-in-Ok-clause-header
+returns-in-Ok-clause-header g c told =
     let base = seen (g.D.Disk.history c.args.d.now) in
-    let looked = c.read_header.ensures.looked in
-    let file = c.new-view.ensures.file in
-    let new = c.read_header.new.s.file.now in
-    let d = ap (λ x. seen (g.D.Disk.history x)) c.new-view.ensures.disk in
-    let h = ap (λ s. seen s.history) looked.disk in
-    let kept = first_name _ _ _ _ looked.under in
-    let long : g.D.Disk.size c.read_header.new.s.disk.now ≡ g.D.Disk.size c.args.d.now = ap (λ s. s.size) looked.disk ∙ ap (λ x. g.D.Disk.size x) c.new-view.ensures.disk in
-    subst (λ m. SameFile base c.args.file.now m) (sym (c.file-1.given.1 (sym c.new-view.ensures.same_file ∙ sym kept)))
-    (record {
-      view = ap (mended_view new) (sym (h ∙ d)) ∙ looked.image ∙ (λ j. mended_view (file j) (d j));
-      form = looked.form ∙ ap mended_form file;
-      file = sym c.read_header.new.s.sized ∙ long ∙ c.requires.sized;
-      start = third_name _ _ _ _ _ _ _ _ looked.under ∙ ap mended_start file;
-      length = looked.size ∙ ap mended_length file;
-    })
+    let img = mended_view c.args.file.now base in
+    let held : 168 ≤ length img = omega (arith, view_length c.args.file.now base, c.requires.long) in
+    let read : c.read.new.buf ≡ take 168 (drop 0 img) = c.in_ok-read.ensures.bytes told in
+    (header_whole img c.read.new.buf held read c.in-Ok.ensures.header.0.no_fault, c.in-Ok.ensures.header.1 ∙ header_read img c.read.new.buf read)
 
-pub read_header-requires : goal.read_header-requires
-read_header-requires g c = subst (λ m. 168 ≤ mended_length m) (sym c.new-view.ensures.file) c.requires.long
+pub returns-in-Err-clause-refused : goal.returns-in-Err-clause-refused
+returns-in-Err-clause-refused g c told =
+    let base = seen (g.D.Disk.history c.args.d.now) in
+    let img = mended_view c.args.file.now base in
+    let held : 168 ≤ length img = omega (arith, view_length c.args.file.now base, c.requires.long) in
+    let read : c.read.new.buf ≡ take 168 (drop 0 img) = c.in_ok-read.ensures.bytes told in
+    (front_header img c.read.new.buf c.in-Err._fault held read c.in-Err.ensures.fault).0
+
+pub returns-in-Ok-clause-chains : goal.returns-in-Ok-clause-chains
+returns-in-Ok-clause-chains g c =
+    let some = chains_some c.read.new.buf c.in-Ok.ensures.header.0.no_fault in
+    omega (arith, some, ap (λ h. h.hash_size) c.in-Ok.ensures.header.1)

@@ -29,8 +29,10 @@ returns-clause-same g c =
     subst (λ m. SameFile base c.args.file.now m) (sym (c.file-1.given.1 (sym c.new-view.ensures.same_file ∙ sym kept)))
     (record {
       view = ap (mended_view new) (sym (h ∙ d)) ∙ looked.image ∙ (λ j. mended_view (file j) (d j));
-      form = looked.form ∙ ap mended_form file;
-      file = sym c.survey.new.s.sized ∙ long ∙ c.requires.sized;
-      start = third_name _ _ _ _ _ _ _ _ looked.under ∙ ap mended_start file;
-      length = looked.size ∙ ap mended_length file;
+      bounds = record {
+        form = looked.form ∙ ap mended_form file;
+        file = sym c.survey.new.s.sized ∙ long ∙ c.requires.sized;
+        start = third_name _ _ _ _ _ _ _ _ looked.under ∙ ap mended_start file;
+        length = looked.size ∙ ap mended_length file;
+      };
     })

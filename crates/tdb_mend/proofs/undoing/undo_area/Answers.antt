@@ -44,13 +44,13 @@ returns-in-Still-clause-undone g c told own =
     )
 
 -- the area has no header
-pub returns-in_err-put_word-in-WithoutHeader-clause-bad : goal.returns-in_err-put_word-in-WithoutHeader-clause-bad
-returns-in_err-put_word-in-WithoutHeader-clause-bad g c =
-    let p = err_from_is_err_and c.from_residual-in_err-put_word-in-WithoutHeader.result c.from_residual-in_err-put_word-in-WithoutHeader.ensures.1 in
-    rw (p.1, p.2) (λ told own. names_then c.in_err-put_word-in-WithoutHeader.field-0.0 _ _ (λ fault none. absurd none) c.in_err-put_word-in-WithoutHeader.ensures.refusal)
+pub returns-in_err-put-in-WithoutHeader-clause-bad : goal.returns-in_err-put-in-WithoutHeader-clause-bad
+returns-in_err-put-in-WithoutHeader-clause-bad g c =
+    let p = err_from_is_err_and c.from_residual-in_err-put-in-WithoutHeader.result c.from_residual-in_err-put-in-WithoutHeader.ensures.1 in
+    rw (p.1, p.2) (λ told own. names_then c.in_err-put-in-WithoutHeader.field-0.0 _ _ (λ fault none. absurd none) c.in_err-put-in-WithoutHeader.ensures.refusal)
 
-pub returns-in_ok-put_word-in-WithoutHeader-clause-undone : goal.returns-in_ok-put_word-in-WithoutHeader-clause-undone
-returns-in_ok-put_word-in-WithoutHeader-clause-undone g c told own =
+pub returns-in_ok-put-in-WithoutHeader-clause-undone : goal.returns-in_ok-put-in-WithoutHeader-clause-undone
+returns-in_ok-put-in-WithoutHeader-clause-undone g c told own =
     let f = g.S.Space.form c.args.s.now in
     let img = g.S.Space.image c.args.s.now in
     let long : length (g.S.Space.image c.args.s.now) ≡ c.in_ok-len.len = g.met.S.Space.told_size c.args.s.now told ∙ sym c.in_ok-len.ensures.length in
@@ -60,7 +60,7 @@ returns-in_ok-put_word-in-WithoutHeader-clause-undone g c told own =
     let same : g.S.Space.image c.read_state.new.s ≡ img = c.read_state.ensures.looked.image ∙ c.len.ensures.image in
     let order : c.order.result ≡ f.order = c.order.ensures ∙ ap (λ x. x.order) (c.read_state.ensures.looked.form ∙ c.len.ensures.form) in
     let bytes : c.word_bytes-none.result ≡ bytes_of_word f.order 0 = c.word_bytes-none.ensures.bytes ∙ ap (λ o. bytes_of_word o 0) order in
-    let put : g.S.Space.image c.put_word.new.s ≡ overlay img 44 (bytes_of_word f.order 0) = c.in_ok-put_word-in-WithoutHeader.ensures.set told ∙ (λ j. overlay (same j) 44 (bytes j)) in (
+    let put : g.S.Space.image c.put.new.self ≡ overlay img 44 (bytes_of_word f.order 0) = c.in_ok-put-in-WithoutHeader.ensures.set told ∙ (λ j. overlay (same j) 44 (bytes j)) in (
       lacking_none f img lacks,
       ap (take c.in_ok-len.len) put ∙ take_all c.in_ok-len.len (overlay img 44 (bytes_of_word f.order 0)) (omega (arith, length-overlay img 44 (bytes_of_word f.order 0), long)) ∙ sym (lacking_read f img own lacks),
     )

@@ -49,15 +49,15 @@ returns-in_err-give_back-clause-bad g c =
     (λ fault h. content_good f img a is c.args.len _ long good ((λ j. unparsed (content_end_of a) (entries_of (sym looked.form j).order (sym looked.image j) a)) ∙ h))
     (c.in_err-give_back.ensures.bad told)))
 
-pub returns-in_err-put_word-clause-bad : goal.returns-in_err-put_word-clause-bad
-returns-in_err-put_word-clause-bad g c =
-    let p = err_from_is_err_and c.from_residual-in_err-put_word.result c.from_residual-in_err-put_word.ensures.1 in
-    rw (p.1, p.2) (λ told is. names_then c.in_err-put_word.field-0.0 _ _ (λ fault none. absurd none) c.in_err-put_word.ensures.refusal)
+pub returns-in_err-put-clause-bad : goal.returns-in_err-put-clause-bad
+returns-in_err-put-clause-bad g c =
+    let p = err_from_is_err_and c.from_residual-in_err-put.result c.from_residual-in_err-put.ensures.1 in
+    rw (p.1, p.2) (λ told is. names_then c.in_err-put.field-0.0 _ _ (λ fault none. absurd none) c.in_err-put.ensures.refusal)
 
-pub returns-in_err-put_word-2-clause-bad : goal.returns-in_err-put_word-2-clause-bad
-returns-in_err-put_word-2-clause-bad g c =
-    let p = err_from_is_err_and c.from_residual-in_err-put_word-2.result c.from_residual-in_err-put_word-2.ensures.1 in
-    rw (p.1, p.2) (λ told is. names_then c.in_err-put_word-2.field-0.0 _ _ (λ fault none. absurd none) c.in_err-put_word-2.ensures.refusal)
+pub returns-in_err-put-2-clause-bad : goal.returns-in_err-put-2-clause-bad
+returns-in_err-put-2-clause-bad g c =
+    let p = err_from_is_err_and c.from_residual-in_err-put-2.result c.from_residual-in_err-put-2.ensures.1 in
+    rw (p.1, p.2) (λ told is. names_then c.in_err-put-2.field-0.0 _ _ (λ fault none. absurd none) c.in_err-put-2.ensures.refusal)
 
 pub returns-clause-within : goal.returns-clause-within
 returns-clause-within g c =
@@ -88,10 +88,10 @@ returns-clause-undone g c told is =
     subst (λ x. GivenBack a (entries_of f.order x a) x b) looked.image (subst (λ q. GivenBack a (entries_of q.order (g.S.Space.image c.area_head_left.new.s) a) (g.S.Space.image c.area_head_left.new.s) b) looked.form back.1) in
     let z = c.word_bytes-shut.result in
     let zero = c.word_bytes-shut.ensures.bytes in
-    let gate : g.S.Space.image c.put_word-2.new.s ≡ overlay (g.S.Space.image c.put_word.new.s) (a.at + 20) z = c.in_ok-put_word-2.ensures.set told ∙ ap (λ n. overlay (g.S.Space.image c.put_word.new.s) n z) c.gate.ensures in
-    let whole = undone_is a img es (data_start f) c.args.len b (g.S.Space.image c.put_word.new.s) (g.S.Space.image c.put_word-2.new.s) c.in_ok-head.head z c.requires.stands (omega arith) long good given
+    let gate : g.S.Space.image c.put-2.new.self ≡ overlay (g.S.Space.image c.put.new.self) (a.at + 20) z = c.in_ok-put-2.ensures.set told ∙ ap (λ n. overlay (g.S.Space.image c.put.new.self) n z) c.gate.ensures in
+    let whole = undone_is a img es (data_start f) c.args.len b (g.S.Space.image c.put.new.self) (g.S.Space.image c.put-2.new.self) c.in_ok-head.head z c.requires.stands (omega arith) long good given
     c.in_ok-head.ensures.four (c.in_ok-head.ensures.bytes told) (ap length zero ∙ word_length c.order.result 0)
-    (λ k. ap (λ xs. slice_index xs k) (zero ∙ sym (zero_word c.order.result)) ∙ zero_there k) (c.in_ok-put_word.ensures.set told) gate in (
+    (λ k. ap (λ xs. slice_index xs k) (zero ∙ sym (zero_word c.order.result)) ∙ zero_there k) (c.in_ok-put.ensures.set told) gate in (
       content_good f img a is c.args.len _ long good parsed,
-      ap (λ n. take n (g.S.Space.image c.put_word-2.new.s)) c.wide_len.ensures.left ∙ whole ∙ same_undone f img a is,
+      ap (λ n. take n (g.S.Space.image c.put-2.new.self)) c.wide_len.ensures.left ∙ whole ∙ same_undone f img a is,
     )

@@ -5,4 +5,4 @@ use Rattle.tdb_mend.specs.View.{mended_view}
 use Rattle.tdb_mend.proofs.view.MendedViewSpace.read.Goals as goal
 
 pub returns-clause-image : goal.returns-clause-image
-returns-clause-image g c = ap (λ h. mended_view c.read_shown.new.file (seen h)) c.read_shown.ensures.history ∙ c.read_shown.ensures.same.view
+returns-clause-image g c = ap (λ s. mended_view c.read.new.self (seen s.history)) c.read.ensures.disk ∙ c.read.ensures.same.view
