@@ -26,7 +26,7 @@ passes_on behind = is_nothing behind.kept
 abbrev pub behind_view : {D : Type 0} {g : Ghosts D} → WriteBehind D g → List ℕ
 behind_view {g = g} behind = view_of behind.kept (g.size behind.inner) (seen (g.history behind.inner))
 
--- how many calls at most write what the disk within lacks: one where the content is kept, and at most 8
+-- how many calls at most write what the disk within lacks: one where the content is kept, and at most 32
 abbrev pub owed : {D : Type 0} {g : Ghosts D} → WriteBehind D g → ℕ
 owed behind = owed_by behind.kept
 

@@ -10,21 +10,21 @@ use crate::blocks::{BLOCK_SIZE, Blocks};
 use std::alloc::Global;
 use tdb_disk::{Disk, DiskFault};
 
-/// The most blocks that are pending, 512 KiB.
-const MOST_PENDING: usize = 8;
+/// The most blocks that are pending, 2 MiB.
+const MOST_PENDING: usize = 32;
 
 /// So many writes beside the blocks are passed on before all blocks go out for others.
 const MOST_MISSES: u32 = 256;
 
-/// The blocks of a file to which was written, and which the file lacks: 8 at most. A block is read whole when a byte of
-/// it is first written. Where 8 are pending a write beside them is passed on, and the 256th first writes them all, so
+/// The blocks of a file to which was written, and which the file lacks: 32 at most. A block is read whole when a byte of
+/// it is first written. Where 32 are pending a write beside them is passed on, and the 256th first writes them all, so
 /// that others take their places.
 #[derive(Drop)]
 pub struct Pending {
     blocks: Blocks,
     /// How many writes were passed on beside the most blocks.
     misses: u32,
-    ghost few: { kept_count blocks ≤ 8 },
+    ghost few: { kept_count blocks ≤ 32 },
 }
 
 impl Pending {
@@ -48,7 +48,7 @@ impl Pending {
         ensures none { OnOk result (NoneKept self.new.blocks) }
         ensures count { OnOk result (kept_count self.new.blocks ≡ 0) }
         ensures calls { clock (D.history d.new) ≤ clock (D.history d.old) + kept_count self.old.blocks }
-        ensures few { kept_count self.old.blocks ≤ 8 }
+        ensures few { kept_count self.old.blocks ≤ 32 }
         ensures size { D.size d.new ≡ D.size d.old }
         ensures syncs { D.syncs d.new ≡ D.syncs d.old }
         ensures cause { HasCause (D.faults d.old) (D.faults d.new) result }
@@ -72,7 +72,7 @@ impl Pending {
         requires sized { AllSized self.old.blocks (D.size d.old) }
         requires below { block_start number ≤ D.size d.old }
         requires new { block_at self.old.blocks number ≡ None }
-        requires room { kept_count self.old.blocks < 8 }
+        requires room { kept_count self.old.blocks < 32 }
         ensures view { IsTrue D.tells → laid self.new.blocks (seen (D.history d.new)) ≡ laid self.old.blocks (seen (D.history d.old)) }
         ensures sized { AllSized self.new.blocks (D.size d.new) }
         ensures history { D.history d.new ≡ D.history d.old }

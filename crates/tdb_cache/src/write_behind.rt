@@ -17,7 +17,7 @@ use tdb_disk::{Disk, DiskFault};
 
 /// A disk that is written behind, as a new file is. Its content is kept in memory while it is short, up to 1 MiB: a
 /// write costs a copy of its bytes, and reaches the disk within at the next sync, which writes all by one call. Past
-/// that blocks of 64 KiB are gathered, 8 at most, and reach it at the next sync, growth or cut, or when others take their
+/// that blocks of 64 KiB are gathered, 32 at most, and reach it at the next sync, growth or cut, or when others take their
 /// places. Where nothing is kept each call is passed on.
 ///
 /// The length is that of the disk within at any time: a growth and a cut are passed on at once. Between two syncs a
@@ -80,7 +80,7 @@ impl<D: Disk> WriteBehind<D> {
         ensures view { IsTrue D.tells → behind_view self.new ≡ behind_view self.old }
         ensures shown { OnOk result (IsTrue D.tells → seen (D.history (behind_inner self.new)) ≡ behind_view self.old) }
         ensures calls { clock (D.history (behind_inner self.new)) ≤ clock (D.history (behind_inner self.old)) + owed self.old }
-        ensures few { owed self.old ≤ 8 }
+        ensures few { owed self.old ≤ 32 }
         ensures passed { passes_on self.old ≡ true → behind_inner self.new ≡ behind_inner self.old }
         ensures keeps { keeps_content self.new ≡ keeps_content self.old }
         ensures passes { passes_on self.new ≡ passes_on self.old }
@@ -306,7 +306,7 @@ impl<D: Disk> Disk for WriteBehind<D> {
         ensures shown { OnOk result (IsTrue D.tells → seen (D.history (behind_inner self.new)) ≡ behind_view self.old) }
         ensures quiet { OnOk result (IsTrue D.tells → Quiet (D.history (behind_inner self.new))) }
         ensures calls { clock (D.history (behind_inner self.new)) ≤ clock (D.history (behind_inner self.old)) + owed self.old + 1 }
-        ensures few { owed self.old ≤ 8 }
+        ensures few { owed self.old ≤ 32 }
         ensures passed { passes_on self.old ≡ true → OnOk result (IsTrue D.tells → D.history (behind_inner self.new) ≡ called (D.history (behind_inner self.old)) synced) }
         ensures keeps { keeps_content self.new ≡ keeps_content self.old }
         ensures passes { passes_on self.new ≡ passes_on self.old }
