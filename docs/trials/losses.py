@@ -8,7 +8,7 @@ Only what begins with NAME is tried, where it is said. Usage: losses.py PROGRAM 
 import os, shutil, signal, subprocess, sys, tempfile, time
 
 import tdb
-from stock import PROGRAM, Stock, make, opened, run
+from stock import KEYS, PROGRAM, Stock, make, opened, run
 
 TRIES = int(sys.argv[2]) if len(sys.argv) > 2 else 20
 # The flag of the stock library that its python module doesn't name.
@@ -117,6 +117,65 @@ def changed_beneath(change, is_held, pause):
     return tried
 
 
+def line_by_line(user):
+    """A session that is sent a line each 10 ms through a pipe; the stock library stores between two of them."""
+    make().close()
+    session = subprocess.Popen([PROGRAM, "tool", "f.tdb"], stdin=subprocess.PIPE, stdout=subprocess.PIPE,
+                               stderr=subprocess.DEVNULL, user=user)
+    for n in range(20):
+        if n == 10:
+            stores(None)
+        session.stdin.write(b"store key%d other\n" % n)
+        session.stdin.flush()
+        answer = session.stdout.readline().decode().strip()
+        if answer != "ok":
+            break
+        time.sleep(0.01)
+    session.communicate()
+    return ["%s at line %d" % (answer, n)], [] if n == 10 else ["a store after it says ok"]
+
+
+def stopped(begun):
+    """A session that is stopped in the midst of a piece of input, behind so many answers, while the stock library
+    stores; then it goes on."""
+    def tried(user):
+        make().close()
+        lines = b"".join(b"store key%d other\n" % (n % KEYS) for n in range(3000))
+        session = subprocess.Popen([PROGRAM, "tool", "f.tdb"], bufsize=0, stdin=subprocess.PIPE,
+                                   stdout=subprocess.PIPE, stderr=subprocess.DEVNULL, user=user)
+        session.stdin.write(lines)
+        head = b""
+        while head.count(b"\n") < begun:
+            head += session.stdout.read(3)
+        session.send_signal(signal.SIGSTOP)
+        time.sleep(0.05)
+        stores(None)
+        time.sleep(0.05)
+        session.send_signal(signal.SIGCONT)
+        answers = (head + session.communicate()[0]).decode().split()
+        is_done = answers.count("ok") == 3000
+        return ["ok to the end" if is_done else answers[-1]], ["a store after it says ok"] if is_done else []
+    return tried
+
+
+def after_burst(user):
+    """A session that is sent many lines at once; 50 ms behind its last answer the stock library stores, and at once a
+    line follows."""
+    make().close()
+    lines = b"".join(b"store key%d other\n" % (n % KEYS) for n in range(3000))
+    session = subprocess.Popen([PROGRAM, "tool", "f.tdb"], bufsize=0, stdin=subprocess.PIPE, stdout=subprocess.PIPE,
+                               stderr=subprocess.DEVNULL, user=user)
+    session.stdin.write(lines)
+    head = b""
+    while head.count(b"\n") < 3000:
+        head += session.stdout.read(4096)
+    time.sleep(0.05)
+    stores(None)
+    session.stdin.write(b"store a 1\n")
+    answer = session.communicate()[0].decode().strip()
+    return [answer], ["a store after it says ok"] if answer == "ok" else []
+
+
 def healthy(begin, is_held):
     """A `backup -v` of a file that the stock tools call healthy, open in a process or not."""
     def tried(user):
@@ -176,6 +235,10 @@ CHANGES = {
 for what, (change, is_held) in CHANGES.items():
     TRIALS["session, file %s at once" % what] = changed_beneath(change, is_held, 0)
     TRIALS["session, file %s after 0.1 s" % what] = changed_beneath(change, is_held, 0.1)
+TRIALS["session, a line each 10 ms"] = line_by_line
+TRIALS["session, behind 3,000 lines at once"] = after_burst
+for begun in 1, 100, 1000:
+    TRIALS["session that is stopped behind %d answers" % begun] = stopped(begun)
 
 
 def main():
