@@ -2,19 +2,10 @@
 ghost use Rattle.std.specs.Prelude.{◌≡◌, IsErr, IsSome};
 
 use crate::locks::{LockKind, lock};
+use crate::pace::Pace;
 use crate::reason::{Reason, is_missing};
 use crate::stamp::Stamp;
 use std::fs::{self, File};
-use std::time::{Duration, Instant};
-
-/// A file is looked at before a change that comes so long after the last one, in microseconds.
-const PAUSE: u64 = 200;
-
-/// So many changes without a pause between them are each noted.
-const EACH_NOTED: u32 = 64;
-
-/// After those a change is noted where the last one that was noted began so long ago, in microseconds.
-const NOTE_PAUSE: u64 = 100;
 
 /// The right to change an open file, and how this run left it. Where the file moved without this run, or its lock can't
 /// be had, it isn't changed from there on.
@@ -34,19 +25,8 @@ pub(crate) struct Guard {
     is_exact: bool,
     /// The file was changed by this run since its last sync.
     is_dirty: bool,
-    /// How many changes came since the last pause.
-    changes: u32,
-    /// When the last change began, and the last that was noted; None before the first, or without a clock.
-    last: Option<Instant>,
-    noted: Option<Instant>,
-}
-
-/// Whether so long has passed, as far as it is known.
-fn has_passed(from: Option<Instant>, to: Option<Instant>, span: Duration) -> bool {
-    match (from, to) {
-        (Some(from), Some(to)) => to.duration_since(from) >= span,
-        _ => true,
-    }
+    /// How fast the changes follow each other.
+    pace: Pace,
 }
 
 impl Guard {
@@ -72,9 +52,7 @@ impl Guard {
             stamp,
             is_exact: true,
             is_dirty: false,
-            changes: 0,
-            last: None,
-            noted: None,
+            pace: Pace::new(),
         }
     }
 
@@ -121,31 +99,16 @@ impl Guard {
         }
     }
 
-    /// Gets the lock for changes, where the file has the one for reading alone. Others may have it in between, so the
-    /// file is looked at then.
-    fn lock_for_change(&mut self, file: &File) -> Result<(), Reason>
+    /// Gets the lock for changes, where the file has the one for reading alone, and looks at the file: others may have
+    /// changed it in between, or while this run paused.
+    fn prepare(&mut self, file: &File) -> Result<(), Reason>
         ensures { self.new ≡ record self.old { kind = self.new.kind } }
     {
-        if self.kind == LockKind::Exclusive {
-            return Ok(());
+        if self.kind != LockKind::Exclusive {
+            lock(&self.rt, file, LockKind::Exclusive, self.seconds)?;
+            self.kind = LockKind::Exclusive;
         }
-        lock(&self.rt, file, LockKind::Exclusive, self.seconds)?;
-        self.kind = LockKind::Exclusive;
         self.look(file)
-    }
-
-    /// Looks at the file, where a pause came before this change.
-    fn look_after_pause(&mut self, file: &File) -> Result<(), Reason>
-        ensures unwritable { self.new.unwritable ≡ self.old.unwritable }
-    {
-        self.lock_for_change(file)?;
-        let now = Instant::now(&self.rt).ok();
-        if has_passed(self.last, now, Duration::from_micros(PAUSE)) {
-            self.look(file)?;
-            self.changes = 0;
-        }
-        self.last = now;
-        Ok(())
     }
 
     /// Passes an answer on. After an Err the file isn't changed any more, for that reason.
@@ -165,11 +128,15 @@ impl Guard {
         ensures barred { IsBarred self.old → IsErr result }
         ensures kept { IsErr result → IsBarred self.new }
     {
+        self.is_dirty = true;
+        let is_paused = self.pace.begin(&self.rt);
+        if self.unwritable.is_none() && self.kind == LockKind::Exclusive && !is_paused {
+            return Ok(());
+        }
         let answer = match self.check() {
-            Ok(()) => self.look_after_pause(file),
+            Ok(()) => self.prepare(file),
             Err(reason) => Err(reason),
         };
-        self.is_dirty = true;
         self.settle(answer)
     }
 
@@ -181,7 +148,7 @@ impl Guard {
             Ok(found) => {
                 self.stamp = Stamp::of(&found);
                 self.is_exact = true;
-                self.noted = self.last;
+                self.pace.note();
             }
             Err(_) => self.is_exact = false,
         }
@@ -199,11 +166,7 @@ impl Guard {
     pub(crate) fn after_bytes(&mut self, file: &File)
         ensures { self.new.unwritable ≡ self.old.unwritable }
     {
-        self.changes = self.changes.saturating_add(1);
-        let now = Instant::now(&self.rt).ok();
-        if self.changes <= EACH_NOTED
-            || has_passed(self.noted, now, Duration::from_micros(NOTE_PAUSE))
-        {
+        if self.pace.end(&self.rt) {
             self.note(file);
         } else {
             self.is_exact = false;

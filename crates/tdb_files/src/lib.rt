@@ -18,6 +18,7 @@ mod manner;
 mod opening;
 mod others;
 mod out_sink;
+mod pace;
 mod part;
 mod progress;
 mod reason;

@@ -17,6 +17,9 @@ const PART: &str = "tdb_files_test/disk.tdb-new";
 /// Another name in the folder.
 const OTHER: &str = "tdb_files_test/other";
 
+/// More writes than are each noted.
+const BURST: u32 = 200;
+
 /// What is done while the file is taken.
 enum Step {
     /// A call, whether it is done, and what the system has in the file then.
@@ -25,6 +28,8 @@ enum Step {
     Lock(Lock, bool),
     /// What another program does, once the clock of the file system has gone on.
     Other(Change),
+    /// Many writes of the same bytes at the beginning, of which not each is noted.
+    Burst,
 }
 
 /// What another program does with the file.
@@ -128,7 +133,7 @@ const FIRST: Step = Step::Call(Edit::Write(0, b"first"), true, Some(b"first678")
 
 /// What the other program does, and whether the file is changed by this run then. After a write that isn't done there
 /// is nothing of it in the file, and no call changes it any more.
-pub(crate) static BENEATH: [(&'static str, Case); 8] = [
+pub(crate) static BENEATH: [(&'static str, Case); 10] = [
     (
         "nothing",
         Case {
@@ -162,6 +167,33 @@ pub(crate) static BENEATH: [(&'static str, Case); 8] = [
         Case {
             steps: &[
                 FIRST,
+                Step::Other(Change::Write),
+                Step::Call(Edit::Write(3, b"?"), false, Some(b"87654321")),
+                Step::Call(Edit::Sync, false, Some(b"87654321")),
+            ],
+            left: &[(FILE, Some(b"87654321"))],
+            ..BESIDE
+        },
+    ),
+    (
+        "nothing, behind many writes",
+        Case {
+            steps: &[
+                Step::Burst,
+                Step::Other(Change::Nothing),
+                Step::Call(Edit::Write(3, b"?"), true, Some(b"fir?t678")),
+                Step::Call(Edit::Sync, true, Some(b"fir?t678")),
+            ],
+            left: &[(FILE, Some(b"fir?t678"))],
+            told: Some(""),
+            ..BESIDE
+        },
+    ),
+    (
+        "a write of as many bytes, behind many writes",
+        Case {
+            steps: &[
+                Step::Burst,
                 Step::Other(Change::Write),
                 Step::Call(Edit::Write(3, b"?"), false, Some(b"87654321")),
                 Step::Call(Edit::Sync, false, Some(b"87654321")),
@@ -288,6 +320,16 @@ fn make_change(rt: HostRuntime, change: &Change) -> io::Result<()> {
     }
 }
 
+/// Whether a call is done so many times, one after the other.
+fn is_often_done<D: Disk>(disk: &mut D, edit: &Edit) -> bool {
+    for _ in 0..BURST {
+        if is_done(disk, edit) != Some(true) {
+            return false;
+        }
+    }
+    true
+}
+
 impl Case {
     /// Whether a step goes so.
     fn goes<D: Disk>(&self, rt: HostRuntime, disk: &mut D, step: &Step) -> bool {
@@ -300,6 +342,7 @@ impl Case {
                 Err(_) => false,
             },
             Step::Other(change) => make_change(rt, change).is_ok(),
+            Step::Burst => is_often_done(disk, &Edit::Write(0, b"first")),
         }
     }
 }
