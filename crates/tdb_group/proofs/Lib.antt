@@ -1,0 +1,10 @@
+pub mod Plainly
+pub mod Endings
+pub mod Turning
+pub mod Files
+pub mod Gifts
+pub mod Loops
+pub mod Parts
+pub mod Groups
+pub mod Each
+pub mod Calls

@@ -1,0 +1,9 @@
+pub mod Members
+pub mod Commands
+pub mod Faults
+pub mod Turns
+pub mod Files
+pub mod Group
+pub mod Stops
+pub mod Each
+pub mod Calls
