@@ -272,6 +272,10 @@ module _ (tells : Bool) (at : ℕ) (olds news : List OverFile) where
   rose_by (Ok v) m old now (e, is) left = absurd (cc is)
   rose_by (Err f) m old now is left = left
 
+  settled_or_rose : (own : Result (Unit {0}) FileStop) (m : Map) (old now : OverFile) → MatchResult own (λ _. IsSettled m now) (λ _. Rose old.faults now.faults) → IsSettled m now ⊎ Rose old.faults now.faults
+  settled_or_rose (Ok v) m old now left = inl left
+  settled_or_rose (Err e) m old now left = inr left
+
   pub cancelled_all : (answer : Result (Unit {0}) ℕ) → CancelledUpTo tells at olds news answer → at ≡ length olds → CancelledEach tells olds news answer
   cancelled_all (Ok v) S all = record {
     count = S.files.count;
@@ -291,6 +295,9 @@ module _ (tells : Bool) (at : ℕ) (olds news : List OverFile) where
           (let O = now_there news olds (sym S.files.count) n now is in
           let D = every_pair at (CancelledOne tells (Err k)) olds news S.files all n O.0 now O.1 is in
           settled_by D.own (ps n).before O.0 now (D.fits.0 less) (D.cancelled.left told (ps n).before (ats n O.0 O.1)));
+      others = λ n old now was is.
+          (let D = every_pair at (CancelledOne tells (Err k)) olds news S.files all n old now was is in
+          settled_or_rose D.own (ps n).before old now (D.cancelled.left told (ps n).before (ats n old was)));
     };
     stops = each_stays (Err k) S all;
   }

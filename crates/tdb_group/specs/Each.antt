@@ -1,5 +1,5 @@
 -- What becomes of files that are prepared, or cancelled, one after the other.
-use Rattle.std.specs.Prelude.{ℕ, ◌≡◌, ◌<◌, List, [], ◌∷◌, ◌++◌, Bool, IsTrue, false, true, Some, Result, Ok, Err, IfErr, MatchResult, length, slice_get}
+use Rattle.std.specs.Prelude.{ℕ, ◌≡◌, ◌⊎◌, ◌<◌, List, [], ◌∷◌, ◌++◌, Bool, IsTrue, false, true, Some, Result, Ok, Err, IfErr, MatchResult, length, slice_get}
 use Rattle.tdb_disk.specs.Count.{Rose}
 use Rattle.tdb_log.specs.Logs.{Logged, LastRefused, ToldAll}
 use Rattle.tdb_log.specs.declared.log.LogRefusal.TheVariants as Unheard
@@ -70,10 +70,12 @@ with_file (Ok v) (Ok w) at = Ok tt
 with_file (Ok v) (Err stop) at = Err at
 with_file (Err first) own at = Err first
 
--- A disk failed, and those of no file before it: each of those has its map, and its transaction is over.
+-- A disk failed, and those of no file before it: the transaction of each of those is over, and it has its map. So it is
+-- of every other file whose disk didn't fail too.
 pub record FailedFirst (ps : ℕ → Maps) (olds news : List OverFile) (at : ℕ) : Type 0 where
   pub rose : RoseAt olds news at
   pub before : EachFile news (λ n w. n < at → IsSettled (ps n).before w)
+  pub others : EachPair olds news (λ n old now. IsSettled (ps n).before now ⊎ Rose old.faults now.faults)
 
 -- The transactions of all files were cancelled. Where a disk failed this is the first such file.
 pub record CancelledEach (tells : Bool) (olds news : List OverFile) (answer : Result (Unit {0}) ℕ) : Type 0 where
