@@ -5,7 +5,9 @@ use Rattle.std.proofs.lemmas.Bool.{cases_eq}
 use Rattle.std.proofs.lemmas.List.{length-append, length-set}
 use Rattle.tdb_disk.specs.Count.{Rose}
 use Rattle.tdb_disk.specs.Stop.{LeavesOnly}
-use Rattle.tdb_disk.proofs.Runs.{leaves_join}
+use Rattle.tdb_disk.proofs.Runs.{leaves_join, leaves_start}
+use Rattle.tdb_space.specs.Form.{Form}
+use Rattle.tdb_law.specs.Openers.{Map}
 use Rattle.tdb_law.specs.Replay.{put}
 use Rattle.tdb_law.proofs.Tests.{never_true}
 use Rattle.tdb_law.proofs.Walking.{put_else, put_here}
@@ -13,22 +15,24 @@ use Rattle.tdb_commands.specs.InLaw.{law_command}
 use Rattle.tdb_commands.specs.declared.command.Command.{Command}
 use Rattle.tdb_locks.specs.declared.turn.Reply.{Reply}
 use Rattle.tdb_log.specs.Logs.{Logged}
-use Rattle.tdb_world.specs.Calm.{OpensToMap}
+use Rattle.tdb_world.specs.Calm.{OpensToEither, OpensToMap}
+use Rattle.tdb_world.specs.Loaded.{IsJustLoaded}
 use Rattle.tdb_world.specs.OverFile.{OverFile}
 use Rattle.tdb_group.specs.Calls.{Added, CancelledAll, DidAt, FinishedNext, IsStopOfAdding, NotAdded, PreparedAll}
-use Rattle.tdb_group.specs.Each.{AllWell, CancelledEach, PreparationLeft, PreparedEach, RoseAt, StayEach}
-use Rattle.tdb_group.specs.Faults.{at_file, refused}
-use Rattle.tdb_group.specs.Files.{Applied, Finished, IsAt, Started, StaysAt, maps}
+use Rattle.tdb_group.specs.Commands.{Replies}
+use Rattle.tdb_group.specs.Each.{AllWell, CancelledEach, PreparationLeft, PreparedEach, RoseAt, StayEach, WentOn, cancel_answer}
+use Rattle.tdb_group.specs.Faults.{at_file, refused, stop_at}
+use Rattle.tdb_group.specs.Files.{Applied, Finished, HasNoTxn, IsAt, IsFull, StartLeft, Started, StaysAt, maps}
 use Rattle.tdb_group.specs.Group.{AreCancelled, EachFile, EachPair, FileStands, GroupState, HasMaps, IsSoundGroup, Standing}
-use Rattle.tdb_group.specs.Members.{IsUnderway, Maps, form_of_file, options_of_file}
-use Rattle.tdb_group.specs.Stops.{AfterSome}
+use Rattle.tdb_group.specs.Members.{IsSettled, IsUnderway, Maps, form_of_file, options_of_file}
+use Rattle.tdb_group.specs.Stops.{After, AfterSome, map_if}
 use Rattle.tdb_group.specs.Turns.{Ran}
 use Rattle.tdb_group.specs.declared.stop.FileStop.{FileStop}
 use Rattle.tdb_group.specs.declared.stop.FileStop.TheVariants as StopIs
 use Rattle.tdb_group.specs.declared.stop.GroupStop.{GroupStop}
 use Rattle.tdb_group.specs.declared.stop.GroupStop.TheVariants.{Refused, Io, LogFailed, Memory}
-use Rattle.tdb_group.proofs.Each.{stays_here}
-use Rattle.tdb_group.proofs.Groups.{each_now, each_set, finished_standing, finishing_after, get_set_else, get_set_here, not_below, now_there, some_same, standing_after, stays_after, underway_each}
+use Rattle.tdb_group.proofs.Each.{stays_here, went_broke, went_here, went_well}
+use Rattle.tdb_group.proofs.Groups.{each_now, each_set, finished_standing, finishing_after, get_set_else, get_set_here, not_below, now_there, some_same, standing_after, stands_opens, stays_after, underway_each}
 use Rattle.tdb_group.proofs.Parts.{kept_form}
 
 -- the files of a group that is prepared or isn't, with none finished
@@ -75,11 +79,12 @@ sound_more b old S few unspent = record {
 }
 
 module _ (tells : Bool) (w b : OverFile) (old : GroupState) where
-  pub added : old.prepared ≡ false → old.finished ≤ length old.files → (options_of_file w).read_only ≡ false → Started tells w b (Ok tt) → Added tells w old (record old { files = old.files ++ b ∷ [] }) (length old.files)
-  added unprepared few writes S = record {
+  pub added : old.prepared ≡ false → old.finished ≤ length old.files → (options_of_file w).read_only ≡ false → Ran {V = Unit {0}} w b (Ok tt) → Started tells w b (Ok tt) → Added tells w old (record old { files = old.files ++ b ∷ [] }) (length old.files)
+  added unprepared few writes R S = record {
     number = refl;
     begun = b;
     files = refl;
+    ran = R;
     leads = λ told state L ps has m one is.
         (let n = length old.files in
         let v = maps state.file state.file in
@@ -98,6 +103,7 @@ module _ (tells : Bool) (w b : OverFile) (old : GroupState) where
       → NotAdded tells w b old old (at_file stop (length old.files))
   not_added stop writes R S fault = record {
     same = refl;
+    rises = R.never_falls;
     cause = cause_of stop R S fault;
     stops = λ told state L safe. S.stops told state L writes safe;
   }
@@ -115,6 +121,7 @@ module _ (tells : Bool) (w b : OverFile) (old : GroupState) where
 pub never_added : (tells : Bool) (w : OverFile) (old : GroupState) → (options_of_file w).read_only ≡ false → w.spent ≡ false → Started tells w w (Err StopIs.Memory) → NotAdded tells w w old old (Memory (length old.files))
 never_added tells w old writes unspent S = record {
   same = refl;
+  rises = omega arith;
   cause = (refl, unspent, refl, λ told state L. S.left told state L writes);
   stops = λ told state L safe. S.stops told state L writes safe;
 }
@@ -124,16 +131,23 @@ module _ (tells : Bool) (old : GroupState) (n : ℕ) (c : Command) (file now : O
   each_underway : (ps : ℕ → Maps) → HasMaps ps old → EachFile old.files (λ m w. IsUnderway false (ps m) w)
   each_underway ps has = underway_each false ps old.files (standing_as old false 0 ps unprepared none has)
 
-  did_stops : (answer : Result Reply FileStop) → Applied tells (law_command c) file now answer → IsTrue tells → (ps : ℕ → Maps) → HasMaps ps old → AfterSome 0 0 ps old.files (set old.files n now)
-  did_stops answer A told ps has =
-      stays_after ps old.files (set old.files n now) (length-set old.files n now)
-      (pair_set old.files n file now (λ m one two. StaysAt (ps m).before one two) here (A.stops told (ps n) (each_underway ps has n file here)) (λ m w is. stays_here false (ps m) w (each_underway ps has m w is)))
+  did_stays : (answer : Result Reply FileStop) → Applied tells (law_command c) file now answer → IsTrue tells → (ps : ℕ → Maps) → HasMaps ps old → StayEach ps old.files (set old.files n now)
+  did_stays answer A told ps has =
+      pair_set old.files n file now (λ m one two. StaysAt (ps m).before one two) here (A.stops told (ps n) (each_underway ps has n file here)) (λ m w is. stays_here false (ps m) w (each_underway ps has m w is))
 
-  pub did_done : (reply : Reply) → Applied tells (law_command c) file now (Ok reply) → DidAt tells old (record old { files = set old.files n now }) n c (Ok reply)
-  did_done reply A = record {
+  did_stops : (answer : Result Reply FileStop) → Applied tells (law_command c) file now answer → IsTrue tells → (ps : ℕ → Maps) → HasMaps ps old → AfterSome 0 0 ps old.files (set old.files n now)
+  did_stops answer A told ps has = stays_after ps old.files (set old.files n now) (length-set old.files n now) (did_stays answer A told ps has)
+
+  did_went : {V : Type 0} (answer : Result V GroupStop) → WentOn answer file now → EachPair old.files (set old.files n now) (λ m a b. WentOn answer a b)
+  did_went answer W = pair_set old.files n file now (λ m a b. WentOn answer a b) here W (λ m w is. went_here answer w)
+
+  pub did_done : (reply : Reply) → Ran {V = Reply} file now (Ok reply) → Applied tells (law_command c) file now (Ok reply) → DidAt tells old (record old { files = set old.files n now }) n c (Ok reply)
+  did_done reply R A = record {
     file = now;
     files = λ j. record old { files = set old.files n now; stopped = going j };
     fault = tt;
+    went = did_went (Ok reply) (went_well (Ok reply) file now reply R);
+    stays = λ told ps has. did_stays (Ok reply) A told ps has;
     left = λ told ps has.
         (let L = A.left told (ps n) (each_underway ps has n file here) in
         let v = maps (ps n).before L.0 in (
@@ -146,11 +160,13 @@ module _ (tells : Bool) (old : GroupState) (n : ℕ) (c : Command) (file now : O
     stops = λ told ps has. did_stops (Ok reply) A told ps has;
   }
 
-  pub did_failed : Applied tells (law_command c) file now (Err StopIs.Io) → DidAt tells old (record old { files = set old.files n now; stopped = true }) n c (Err (Io n))
-  did_failed A = record {
+  pub did_failed : Ran {V = Reply} file now (Err StopIs.Io) → Applied tells (law_command c) file now (Err StopIs.Io) → DidAt tells old (record old { files = set old.files n now; stopped = true }) n c (Err (Io n))
+  did_failed R A = record {
     file = now;
     files = refl;
     fault = refl;
+    went = did_went (Err (Io n)) (went_broke n file now StopIs.Io R);
+    stays = λ told ps has. did_stays (Err StopIs.Io) A told ps has;
     left = λ told ps has. record { before = file; after = now; was = here; is = get_set_here old.files n file now here; rose = A.left told (ps n) (each_underway ps has n file here) };
     stops = λ told ps has. did_stops (Err StopIs.Io) A told ps has;
   }
@@ -166,11 +182,28 @@ module _ (tells : Bool) (old : GroupState) (file now : OverFile) (here : slice_g
   finish_stops : (answer : Result (Unit {0}) FileStop) → Finished tells file now answer → IsTrue tells → (ps : ℕ → Maps) → HasMaps ps old → AfterSome old.finished (suc old.finished) ps old.files (set old.files old.finished now)
   finish_stops answer F told ps has = finishing_after old.finished ps old.files file now here (prepared_standing ps has) (F.stops told (ps old.finished) (it_underway ps has))
 
-  pub finish_done : (k : ℕ) → k ≡ suc old.finished → Finished tells file now (Ok tt) → FinishedNext tells old (record old { files = set old.files old.finished now; finished = k }) (Ok old.finished)
-  finish_done k is F = record {
+  finish_went : {V : Type 0} (answer : Result V GroupStop) → WentOn answer file now → EachPair old.files (set old.files old.finished now) (λ n a b. WentOn answer a b)
+  finish_went answer W = pair_set old.files old.finished file now (λ n a b. WentOn answer a b) here W (λ n w is. went_here answer w)
+
+  -- the other files stay at the one map or the other
+  one_of : (f : Form) (finished : Bool) (p : Maps) (c : List ℕ) → OpensToMap f (map_if finished p) c → OpensToEither f p.before p.after c
+  one_of f true p c opens = inr opens
+  one_of f false p c opens = inl opens
+
+  finish_either : (answer : Result (Unit {0}) FileStop) → Finished tells file now answer → IsTrue tells → (ps : ℕ → Maps) → HasMaps ps old
+      → EachPair old.files (set old.files old.finished now) (λ n a b. LeavesOnly a.history b.history (OpensToEither (form_of_file a) (ps n).before (ps n).after))
+  finish_either answer F told ps has =
+      pair_set old.files old.finished file now (λ n a b. LeavesOnly a.history b.history (OpensToEither (form_of_file a) (ps n).before (ps n).after)) here (F.stops told (ps old.finished) (it_underway ps has))
+      (λ n w is. leaves_start w.history (OpensToEither (form_of_file w) (ps n).before (ps n).after) (λ c left.
+      one_of (form_of_file w) (nat_lt n old.finished) (ps n) c (stands_opens true (nat_lt n old.finished) (ps n) w (prepared_standing ps has n w is) c left)))
+
+  pub finish_done : (k : ℕ) → k ≡ suc old.finished → Ran {V = Unit {0}} file now (Ok tt) → Finished tells file now (Ok tt) → FinishedNext tells old (record old { files = set old.files old.finished now; finished = k }) (Ok old.finished)
+  finish_done k is R F = record {
     file = now;
     files = λ j. record old { files = set old.files old.finished now; finished = is j; stopped = going j };
     number = refl;
+    went = finish_went (Ok old.finished) (went_well (Ok old.finished) file now tt R);
+    either = λ told ps has. finish_either (Ok tt) F told ps has;
     left = λ told ps has.
         (let standing = finished_standing old.finished ps old.files file now here (prepared_standing ps has) (F.left told (ps old.finished) (it_underway ps has)) in (
           subst₂ (λ b j. Standing b j ps (set old.files old.finished now)) (sym prepared) (sym is) standing,
@@ -179,11 +212,13 @@ module _ (tells : Bool) (old : GroupState) (file now : OverFile) (here : slice_g
     stops = λ told ps has. finish_stops (Ok tt) F told ps has;
   }
 
-  pub finish_failed : Finished tells file now (Err StopIs.Io) → FinishedNext tells old (record old { files = set old.files old.finished now; stopped = true }) (Err (Io old.finished))
-  finish_failed F = record {
+  pub finish_failed : Ran {V = Unit {0}} file now (Err StopIs.Io) → Finished tells file now (Err StopIs.Io) → FinishedNext tells old (record old { files = set old.files old.finished now; stopped = true }) (Err (Io old.finished))
+  finish_failed R F = record {
     file = now;
     files = refl;
     number = refl;
+    went = finish_went (Err (Io old.finished)) (went_broke old.finished file now StopIs.Io R);
+    either = λ told ps has. finish_either (Err StopIs.Io) F told ps has;
     left = λ told ps has. record { before = file; after = now; was = here; is = get_set_here old.files old.finished file now here; rose = F.left told (ps old.finished) (it_underway ps has) };
     stops = λ told ps has. finish_stops (Err StopIs.Io) F told ps has;
   }
@@ -198,6 +233,8 @@ all_cancelled tells old news none C = record {
   flags = refl;
   count = C.count;
   fault = tt;
+  went = C.went;
+  stays = λ told ps has. C.stops told ps (at_each old ps none has);
   left = λ told ps has. C.left told ps (at_each old ps none has);
   stops = λ told ps has. stays_after ps old.files news C.count (C.stops told ps (at_each old ps none has));
 }
@@ -207,6 +244,8 @@ cancel_failed tells old news at none C = record {
   flags = refl;
   count = C.count;
   fault = (refl, C.number);
+  went = C.went;
+  stays = λ told ps has. C.stops told ps (at_each old ps none has);
   left = λ told ps has. C.left told ps (at_each old ps none has);
   stops = λ told ps has. stays_after ps old.files news C.count (C.stops told ps (at_each old ps none has));
 }
@@ -234,6 +273,8 @@ module _ (tells : Bool) (old : GroupState) (before after : List Logged) (unprepa
     count = E.count;
     number = tt;
     heard = E.heard;
+    went = E.went;
+    stays = λ told ps has. E.stops told ps (unprepared_standing ps has);
     left = λ told ps has. E.left told ps (unprepared_standing ps has);
     done = λ told ps has.
         (let standing = E.left told ps (unprepared_standing ps has) in (subst (λ k. Standing true k ps news) (sym none) standing, standing_after true 0 ps news standing));
@@ -255,6 +296,8 @@ module _ (tells : Bool) (old : GroupState) (before after : List Logged) (unprepa
     count = E.count;
     number = E.number;
     heard = E.heard;
+    went = E.went;
+    stays = λ told ps has. E.stops told ps (unprepared_standing ps has);
     left = λ told ps has. left_else stop (EachFile news (λ n w. IsAt (ps n).before w)) (AreCancelled ps news) ps news not (E.left told ps (unprepared_standing ps has));
     done = λ told ps has. tt;
     stops = λ told ps has. stays_after ps old.files news E.count (E.stops told ps (unprepared_standing ps has));
@@ -270,6 +313,24 @@ module _ (tells : Bool) (old : GroupState) (before after : List Logged) (unprepa
         leaves_join one.history M.0.history two.history (OpensToMap (form_of_file one) (ps n).before) (E.stops told ps S n one M.0 was M.1)
         (subst (λ g. LeavesOnly M.0.history two.history (OpensToMap g (ps n).before)) (sym same) (C.stops told ps (E.left told ps S).1 n M.0 two M.1 is))
 
+    -- the two calls one after the other
+    both_went : (answer : Result (Unit {0}) ℕ) → CancelledEach tells mids news answer → EachPair old.files news (λ n a b. WentOn {V = Unit {0}} (Err (refused (Refused at reply) answer)) a b)
+    both_went answer C n one two was is =
+        let M = now_there old.files mids E.count n one was in
+        went_both answer one M.0 two (E.well n one M.0 was M.1) (C.went n M.0 two M.1 is)
+      where
+        went_both : (answer : Result (Unit {0}) ℕ) (a b d : OverFile) → Ran {V = Unit {0}} a b (Ok tt) → WentOn (cancel_answer answer) b d → WentOn {V = Unit {0}} (Err (refused (Refused at reply) answer)) a d
+        went_both (Ok v) a b d R W = record {
+          rises = (let one = R.never_falls in let two = W.rises in omega (arith, one, two));
+          quiet = W.quiet ∙ R.quiet;
+          form = record { header = W.form.header ∙ R.form.header; options = W.form.options ∙ R.form.options };
+        }
+        went_both (Err k) a b d R W = record {
+          rises = (let one = R.never_falls in let two = W.rises in omega (arith, one, two));
+          quiet = tt;
+          form = tt;
+        }
+
     rose_since : (k : ℕ) → RoseAt mids news k → RoseAt old.files news k
     rose_since k R =
         let O = now_there mids old.files (sym E.count) k R.before R.was in
@@ -282,6 +343,8 @@ module _ (tells : Bool) (old : GroupState) (before after : List Logged) (unprepa
       count = C.count ∙ E.count;
       number = E.number;
       heard = tt;
+      went = both_went (Ok v) C;
+      stays = λ told ps has. both_stay (Ok v) C told ps has;
       left = λ told ps has. (let L = E.left told ps (unprepared_standing ps has) in (L.0, C.left told ps L.1));
       done = λ told ps has. tt;
       stops = λ told ps has. stays_after ps old.files news (C.count ∙ E.count) (both_stay (Ok v) C told ps has);
@@ -291,6 +354,8 @@ module _ (tells : Bool) (old : GroupState) (before after : List Logged) (unprepa
       count = C.count ∙ E.count;
       number = subst (λ n. k < n) E.count C.number;
       heard = tt;
+      went = both_went (Err k) C;
+      stays = λ told ps has. both_stay (Err k) C told ps has;
       left = λ told ps has. rose_since k (C.left told ps (E.left told ps (unprepared_standing ps has)).1).rose;
       done = λ told ps has. tt;
       stops = λ told ps has. stays_after ps old.files news (C.count ∙ E.count) (both_stay (Err k) C told ps has);

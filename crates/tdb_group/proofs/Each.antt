@@ -8,8 +8,8 @@ use Rattle.tdb_log.specs.Logs.{Logged, ToldAll}
 use Rattle.tdb_log.specs.declared.notice.Notice.{Notice}
 use Rattle.tdb_disk.specs.Count.{Rose}
 use Rattle.tdb_law.specs.Openers.{Map}
-use Rattle.tdb_world.specs.OverFile.{OverFile}
-use Rattle.tdb_group.specs.Each.{CancelledEach, HeardEach, PreparationLeft, PreparedEach, RoseAt, StayEach, WellIfDone, growths, with_file}
+use Rattle.tdb_world.specs.OverFile.{KeepsForm, OverFile}
+use Rattle.tdb_group.specs.Each.{AllWell, CancelledEach, HeardEach, PreparationLeft, PreparedEach, RoseAt, StayEach, UnlessFailed, WellIfDone, WentOn, cancel_answer, growths, with_file}
 use Rattle.tdb_group.specs.Faults.{at_file, stop_at}
 use Rattle.tdb_group.specs.Files.{Cancelled, HeardGrowth, IsAt, PrepareLeft, Prepared, StaysAt, growth}
 use Rattle.tdb_group.specs.Group.{EachFile, EachPair, Standing}
@@ -17,9 +17,41 @@ use Rattle.tdb_group.specs.Members.{IsSettled, IsUnderway, Maps}
 use Rattle.tdb_group.specs.Turns.{Ran}
 use Rattle.tdb_group.specs.declared.stop.FileStop.{FileStop}
 use Rattle.tdb_group.specs.declared.stop.FileStop.TheVariants.{Refused, Io, LogFailed, Memory}
+use Rattle.tdb_group.specs.declared.stop.GroupStop.{GroupStop}
+use Rattle.tdb_group.specs.declared.stop.GroupStop.TheVariants as Stopped
 use Rattle.tdb_group.proofs.Files.{member_opens, underway_safe}
 use Rattle.tdb_group.proofs.Groups.{each_now, get_set_else, get_set_here, now_there, some_same, standing_each, underway_each}
-use Rattle.tdb_group.proofs.Loops.{ran_here}
+use Rattle.tdb_group.proofs.Loops.{keeps_itself, ran_here}
+
+-- what holds, holds unless a disk failed
+pub unless_failed : {V : Type 0} (answer : Result V GroupStop) (P : Type 0) → P → UnlessFailed answer P
+unless_failed (Ok v) P p = p
+unless_failed (Err (Stopped.Refused at reply)) P p = p
+unless_failed (Err (Stopped.Io at)) P p = tt
+unless_failed (Err (Stopped.LogFailed at)) P p = p
+unless_failed (Err (Stopped.Memory at)) P p = p
+
+-- A file on which a call was done went on, whatever the group answers, and so did one that wasn't touched.
+pub went_well : {V W : Type 0} (answer : Result V GroupStop) (old now : OverFile) (w : W) → Ran old now (Ok w) → WentOn answer old now
+went_well answer old now w R = record {
+  rises = R.never_falls;
+  quiet = unless_failed answer (now.faults ≡ old.faults) R.quiet;
+  form = unless_failed answer (KeepsForm old now) R.form;
+}
+
+pub went_here : {V : Type 0} (answer : Result V GroupStop) (w : OverFile) → WentOn answer w w
+went_here answer w = record {
+  rises = omega arith;
+  quiet = unless_failed answer (w.faults ≡ w.faults) refl;
+  form = unless_failed answer (KeepsForm w w) (keeps_itself w);
+}
+
+-- and one at which the call broke off
+pub went_broke : {V W : Type 0} (at : ℕ) (old now : OverFile) (stop : FileStop) → Ran {V = W} old now (Err stop) → WentOn {V = V} (Err (at_file stop at)) old now
+went_broke at old now (Refused reply) R = record { rises = R.never_falls; quiet = R.quiet; form = R.form }
+went_broke at old now Io R = record { rises = R.never_falls; quiet = tt; form = tt }
+went_broke at old now LogFailed R = record { rises = R.never_falls; quiet = R.quiet; form = R.form }
+went_broke at old now Memory R = record { rises = R.never_falls; quiet = R.quiet; form = R.form }
 
 -- The first so many files became others in this way, and the rest are as they were.
 pub record UpTo (at : ℕ) (Became : ℕ → OverFile → OverFile → Type 0) (olds news : List OverFile) : Type 0 where
@@ -194,6 +226,8 @@ module _ (tells : Bool) (at : ℕ) (olds mids : List OverFile) (before between a
       count = count;
       number = number;
       well = well_if stop R;
+      went = all (λ n one two. WentOn {V = Unit {0}} (Err (at_file stop at)) one two)
+          (λ n one two is D. went_well (Err (at_file stop at)) one two tt D.ran) (went_broke at old now stop R) (λ n w is. went_here (Err (at_file stop at)) w);
       heard = heard_of stop heard;
       left = λ told ps standing. left_of told ps standing stop (P.left told (ps at) (underway told ps standing at old was));
       stops = λ told ps standing. stay told ps standing;
@@ -205,6 +239,7 @@ prepared_all tells at olds news before after S all = record {
   count = S.files.count;
   number = tt;
   well = λ n old now was is. (pairs n old now was is).ran;
+  went = λ n old now was is. went_well (Ok tt) old now tt (pairs n old now was is).ran;
   heard = subst (λ (z : List OverFile × List OverFile). ToldAll (growths z.0 z.1) before after) (λ j. (whole olds (sym all) j, whole news (S.files.count ∙ sym all) j)) S.heard;
   left = λ told ps standing.
       standing_each true ps news (each_now olds news (λ n w. IsUnderway true (ps n) w) S.files.count (λ n old now was is.
@@ -221,6 +256,7 @@ prepared_all tells at olds news before after S all = record {
 -- The transaction of a file was cancelled, or its disk failed; and whether that is so of it by the answer so far.
 pub record CancelledOne (tells : Bool) (answer : Result (Unit {0}) ℕ) (n : ℕ) (old now : OverFile) : Type 0 where
   pub own : Result (Unit {0}) FileStop
+  pub ran : Ran old now own
   pub cancelled : Cancelled tells old now own
   pub fits : MatchResult answer (λ _. own ≡ Ok tt) (λ k. (n < k → own ≡ Ok tt) × (n ≡ k → (e : FileStop) × (own ≡ Err e)))
 
@@ -234,21 +270,21 @@ cancelled_none_yet tells files = record { files = none_yet (CancelledOne tells (
 -- one file more
 module _ (tells : Bool) (at : ℕ) (olds mids : List OverFile) (old now : OverFile) (here : slice_get mids at ≡ Some old) where
   pub cancelled_more : (answer : Result (Unit {0}) ℕ) (own : Result (Unit {0}) FileStop) → CancelledUpTo tells at olds mids answer → Cancelled tells old now own
-      → CancelledUpTo tells (at + 1) olds (set mids at now) (with_file answer own at)
-  cancelled_more (Ok v) (Ok w) S C = record {
-    files = one_more at (CancelledOne tells (Ok tt)) olds mids old now S.files here (record { own = Ok w; cancelled = C; fits = refl });
+      → Ran old now own → CancelledUpTo tells (at + 1) olds (set mids at now) (with_file answer own at)
+  cancelled_more (Ok v) (Ok w) S C R = record {
+    files = one_more at (CancelledOne tells (Ok tt)) olds mids old now S.files here (record { own = Ok w; ran = R; cancelled = C; fits = refl });
     number = tt;
   }
-  cancelled_more (Ok v) (Err e) S C = record {
+  cancelled_more (Ok v) (Err e) S C R = record {
     files = one_more at (CancelledOne tells (Err at)) olds mids old now
         (up_to_as at (CancelledOne tells (Ok tt)) (CancelledOne tells (Err at)) olds mids S.files (λ n one two low is D.
-        (record { own = D.own; cancelled = D.cancelled; fits = (λ less. D.fits, λ same. absurd (omega (arith, low, same))) })))
-        here (record { own = Err e; cancelled = C; fits = (λ less. absurd (omega (arith, less)), λ same. (e, refl)) });
+        (record { own = D.own; ran = D.ran; cancelled = D.cancelled; fits = (λ less. D.fits, λ same. absurd (omega (arith, low, same))) })))
+        here (record { own = Err e; ran = R; cancelled = C; fits = (λ less. absurd (omega (arith, less)), λ same. (e, refl)) });
     number = omega arith;
   }
-  cancelled_more (Err k) own S C = record {
+  cancelled_more (Err k) own S C R = record {
     files = one_more at (CancelledOne tells (Err k)) olds mids old now S.files here
-        (record { own = own; cancelled = C; fits = (λ less. (let low = S.number in absurd (omega (arith, low, less))), λ same. (let low = S.number in absurd (omega (arith, low, same)))) });
+        (record { own = own; ran = R; cancelled = C; fits = (λ less. (let low = S.number in absurd (omega (arith, low, less))), λ same. (let low = S.number in absurd (omega (arith, low, same)))) });
     number = (let low = S.number in omega (arith, low));
   }
 
@@ -258,8 +294,19 @@ found [] k low = absurd (omega (arith, low))
 found (w ∷ files) zero low = (w, refl)
 found (w ∷ files) (suc k) low = found files k (omega (arith, low))
 
+-- Each went on, quietly where none broke off.
+went_own : (answer : Result (Unit {0}) ℕ) (own : Result (Unit {0}) FileStop) (n : ℕ) (old now : OverFile) → Ran old now own
+    → MatchResult answer (λ _. own ≡ Ok tt) (λ k. (n < k → own ≡ Ok tt) × (n ≡ k → (e : FileStop) × (own ≡ Err e))) → WentOn (cancel_answer answer) old now
+went_own (Ok v) own n old now R is = went_well (Ok tt) old now tt (subst (Ran old now) is R)
+went_own (Err k) own n old now R fits = record { rises = R.never_falls; quiet = tt; form = tt }
+
 -- The transactions of all were cancelled.
 module _ (tells : Bool) (at : ℕ) (olds news : List OverFile) where
+  each_went : (answer : Result (Unit {0}) ℕ) → CancelledUpTo tells at olds news answer → at ≡ length olds → EachPair olds news (λ n old now. WentOn (cancel_answer answer) old now)
+  each_went answer S all n old now was is =
+      let D = every_pair at (CancelledOne tells answer) olds news S.files all n old now was is in
+      went_own answer D.own n old now D.ran D.fits
+
   each_stays : (answer : Result (Unit {0}) ℕ) → CancelledUpTo tells at olds news answer → at ≡ length olds → IsTrue tells → (ps : ℕ → Maps) → EachFile olds (λ n w. IsAt (ps n).before w) → StayEach ps olds news
   each_stays answer S all told ps ats n old now was is =
       (every_pair at (CancelledOne tells answer) olds news S.files all n old now was is).cancelled.stops told (ps n).before (ats n old was)
@@ -280,6 +327,7 @@ module _ (tells : Bool) (at : ℕ) (olds news : List OverFile) where
   cancelled_all (Ok v) S all = record {
     count = S.files.count;
     number = tt;
+    went = each_went (Ok tt) S all;
     left = λ told ps ats.
         each_now olds news (λ n w. IsSettled (ps n).before w) S.files.count (λ n old now was is.
         (let D = every_pair at (CancelledOne tells (Ok tt)) olds news S.files all n old now was is in
@@ -289,6 +337,7 @@ module _ (tells : Bool) (at : ℕ) (olds news : List OverFile) where
   cancelled_all (Err k) S all = record {
     count = S.files.count;
     number = (let low = S.number in omega (arith, low, all));
+    went = each_went (Err k) S all;
     left = λ told ps ats. record {
       rose = failed_at told ps ats;
       before = λ n now is less.

@@ -1,10 +1,10 @@
 -- What becomes of files that are prepared, or cancelled, one after the other.
-use Rattle.std.specs.Prelude.{ℕ, ◌≡◌, ◌⊎◌, ◌<◌, List, [], ◌∷◌, ◌++◌, Bool, IsTrue, false, true, Some, Result, Ok, Err, IfErr, MatchResult, length, slice_get}
+use Rattle.std.specs.Prelude.{ℕ, ◌≡◌, ◌⊎◌, ◌<◌, ◌≤◌, List, [], ◌∷◌, ◌++◌, Bool, IsTrue, false, true, Some, Result, Ok, Err, IfErr, MatchResult, length, slice_get}
 use Rattle.tdb_disk.specs.Count.{Rose}
 use Rattle.tdb_log.specs.Logs.{Logged, LastRefused, ToldAll}
 use Rattle.tdb_log.specs.declared.log.LogRefusal.TheVariants as Unheard
 use Rattle.tdb_log.specs.declared.notice.Notice.{Notice}
-use Rattle.tdb_world.specs.OverFile.{OverFile}
+use Rattle.tdb_world.specs.OverFile.{KeepsForm, OverFile}
 use Rattle.tdb_group.specs.Faults.{stop_at}
 use Rattle.tdb_group.specs.Files.{IsAt, IsFull, StaysAt, growth}
 use Rattle.tdb_group.specs.Group.{EachFile, EachPair, Standing}
@@ -12,7 +12,27 @@ use Rattle.tdb_group.specs.Members.{IsSettled, Maps}
 use Rattle.tdb_group.specs.Turns.{Ran}
 use Rattle.tdb_group.specs.declared.stop.FileStop.{FileStop}
 use Rattle.tdb_group.specs.declared.stop.GroupStop.{GroupStop}
-use Rattle.tdb_group.specs.declared.stop.GroupStop.TheVariants.{Refused, Io, LogFailed}
+use Rattle.tdb_group.specs.declared.stop.GroupStop.TheVariants.{Refused, Io, LogFailed, Memory}
+
+-- what holds unless the disk of a file failed
+abbrev pub UnlessFailed : {V : Type 0} → Result V GroupStop → Type 0 → Type 0
+UnlessFailed (Ok v) p = p
+UnlessFailed (Err (Refused at reply)) p = p
+UnlessFailed (Err (Io at)) p = Unit {0}
+UnlessFailed (Err (LogFailed at)) p = p
+UnlessFailed (Err (Memory at)) p = p
+
+-- A file went on in a call of a group. Its count of faults never falls; and unless a disk failed the count is as it was,
+-- and the world keeps its form.
+pub record WentOn {V : Type 0} (answer : Result V GroupStop) (old new : OverFile) : Type 0 where
+  pub rises : old.faults ≤ new.faults
+  pub quiet : UnlessFailed answer (new.faults ≡ old.faults)
+  pub form : UnlessFailed answer (KeepsForm old new)
+
+-- the answer of a call that cancels files, as that of the group
+abbrev pub cancel_answer : Result (Unit {0}) ℕ → Result (Unit {0}) GroupStop
+cancel_answer (Ok v) = Ok tt
+cancel_answer (Err at) = Err (Io at)
 
 -- each stop since then leaves of each file what opens to its map before
 abbrev pub StayEach : (ℕ → Maps) → List OverFile → List OverFile → Type 0
@@ -60,6 +80,7 @@ pub record PreparedEach (tells : Bool) (olds news : List OverFile) (before after
   pub count : length news ≡ length olds
   pub number : IfErr answer (λ stop. stop_at stop < length olds)
   pub well : WellIfDone olds news answer
+  pub went : EachPair olds news (λ n old now. WentOn answer old now)
   pub heard : HeardEach olds news before after answer
   pub left : IsTrue tells → (ps : ℕ → Maps) → Standing false 0 ps olds → PreparationLeft (EachFile news (λ n w. IsAt (ps n).before w)) ps olds news answer
   pub stops : IsTrue tells → (ps : ℕ → Maps) → Standing false 0 ps olds → StayEach ps olds news
@@ -81,5 +102,6 @@ pub record FailedFirst (ps : ℕ → Maps) (olds news : List OverFile) (at : ℕ
 pub record CancelledEach (tells : Bool) (olds news : List OverFile) (answer : Result (Unit {0}) ℕ) : Type 0 where
   pub count : length news ≡ length olds
   pub number : IfErr answer (λ at. at < length olds)
+  pub went : EachPair olds news (λ n old now. WentOn (cancel_answer answer) old now)
   pub left : IsTrue tells → (ps : ℕ → Maps) → EachFile olds (λ n w. IsAt (ps n).before w) → MatchResult answer (λ _. EachFile news (λ n w. IsSettled (ps n).before w)) (λ at. FailedFirst ps olds news at)
   pub stops : IsTrue tells → (ps : ℕ → Maps) → EachFile olds (λ n w. IsAt (ps n).before w) → StayEach ps olds news

@@ -17,7 +17,7 @@ loop-at-preserved g c =
     let S = c.loop-at.invariant in
     let there = next_there c.loop-at.at (CancelledOne g.D.Disk.tells c.loop-at.answer) c.args.worlds.now.items c.loop-at.worlds.items c.index_mut.result.now S.files (omega arith) c.index_mut.ensures.value in
     subst (CancelledUpTo g.D.Disk.tells (c.loop-at.at + 1) c.args.worlds.now.items (set c.loop-at.worlds.items c.loop-at.at c.cancel-own.new.world)) (sym c.with_file-answer.ensures)
-    (cancelled_more g.D.Disk.tells c.loop-at.at c.args.worlds.now.items c.loop-at.worlds.items c.index_mut.result.now c.cancel-own.new.world there.1 c.loop-at.answer c.cancel-own.result S c.cancel-own.ensures.cancelled)
+    (cancelled_more g.D.Disk.tells c.loop-at.at c.args.worlds.now.items c.loop-at.worlds.items c.index_mut.result.now c.cancel-own.new.world there.1 c.loop-at.answer c.cancel-own.result S c.cancel-own.ensures.cancelled c.cancel-own.ensures.ran)
 
 pub returns : goal.returns
 returns g c =

@@ -36,7 +36,7 @@ returns-in-Ok-clause-added g c =
     (ap (λ (s : GroupState). record s { files = s.files ++ b ∷ [] }) (sym c.self.view_is)
     ∙ ap (λ (l : List OverFile). record old { files = l }) (sym (c.push_reserved.ensures.items ∙ ap (λ (l : List OverFile). l ++ b ∷ []) c.reserve.ensures.items)))
     (sym c.count-at.ensures)
-    (added g.D.Disk.tells c.args.world b c.args.self.now c.requires.open.unprepared done c.requires.writes c.in-Ok.ensures.started)
+    (added g.D.Disk.tells c.args.world b c.args.self.now c.requires.open.unprepared done c.requires.writes c.in-Ok.ensures.ran c.in-Ok.ensures.started)
 
 pub returns-in-Err-clause-refused : goal.returns-in-Err-clause-refused
 returns-in-Err-clause-refused g c =
