@@ -11,7 +11,7 @@ use Rattle.tdb_cmdline.specs.declared.act.Act.{Act}
 use Rattle.tdb_cmdline.specs.declared.act.Verb.{Verb}
 use Rattle.tdb_cmdline.specs.declared.act.Verb.TheVariants.{Show, Insert, Store, Delete, Erase, Check, First, Next, TransactionStart, TransactionCommit, TransactionCancel, Quit}
 use Rattle.tdb_cmdline.specs.declared.ask.Task.{Task}
-use Rattle.tdb_cmdline.specs.declared.ask.Task.TheVariants.{Create, On, Read, Rescue, Print, Repack, Restore, Backup, Verify, Convert, Merge, Mend, Turns, Session, Generate}
+use Rattle.tdb_cmdline.specs.declared.ask.Task.TheVariants.{Create, On, Read, Rescue, Print, Repack, Restore, Backup, Verify, Convert, Merge, Mend, Move, Turns, Session, Generate}
 use Rattle.tdb_cmdline.specs.declared.ask.Ask as C
 use Rattle.tdb_cmdline.specs.declared.options.Command.{Command}
 use Rattle.tdb_cmdline.specs.declared.options.Command.TheVariants as command
@@ -26,6 +26,7 @@ use Rattle.tdb_cmdline.specs.CopyNames.{BackupFits, VerifyFits}
 use Rattle.tdb_cmdline.specs.Lines.Backup.{asks_of}
 use Rattle.tdb_cmdline.specs.Lines.Convert.{convert_of}
 use Rattle.tdb_cmdline.specs.Lines.Mend.{mend_of}
+use Rattle.tdb_cmdline.specs.Lines.Moving.{move_of}
 use Rattle.tdb_cmdline.specs.Lines.Dump.{task_of as dump_task}
 use Rattle.tdb_cmdline.specs.Lines.Turns.{options_in}
 use Rattle.tdb_cmdline.specs.Lines.Generate.{generate_of}
@@ -52,9 +53,10 @@ abbrev pub repack_of : ℕ → List (List ℕ) → Option Task
 repack_of limit [] = Some (Repack limit)
 repack_of limit (word ∷ rest) = None
 
--- the commands of `tool`, each by its name with what its arguments ask for, where the file may have so many bytes
-abbrev pub tools : ℕ → List (List ℕ × (List (List ℕ) → Option Task))
-tools limit =
+-- the commands of `tool` on a file, each by its name with what its arguments ask for, where the file may have so many
+-- bytes
+abbrev pub tools : List ℕ → ℕ → List (List ℕ × (List (List ℕ) → Option Task))
+tools file limit =
     (codes "show", λ arguments. option_map (on_file limit) (show_of arguments))
     ∷ (codes "insert", λ arguments. option_map (on_file limit) (insert_of arguments))
     ∷ (codes "store", λ arguments. option_map (on_file limit) (store_of arguments))
@@ -75,26 +77,27 @@ tools limit =
     ∷ (codes "list", λ arguments. option_map (print_file limit) (print_of Chains arguments))
     ∷ (codes "free", λ arguments. option_map (print_file limit) (print_of FreeList arguments))
     ∷ (codes "repack", λ arguments. repack_of limit arguments)
+    ∷ (codes "move", λ arguments. move_of file limit arguments)
     ∷ (codes "create", λ arguments. option_map Create (create_of limit arguments))
     ∷ []
 
 -- what the command of this name asks for with these arguments, and nothing where there is no such command
-abbrev pub task_of : ℕ → List ℕ → List (List ℕ) → Option Task
-task_of limit command arguments = option_and_then (λ read. read arguments) (lookup (same_key command) (tools limit))
+abbrev pub task_of : List ℕ → ℕ → List ℕ → List (List ℕ) → Option Task
+task_of file limit command arguments = option_and_then (λ read. read arguments) (lookup (same_key command) (tools file limit))
 
 -- this is to be done with this file
 abbrev pub asks : List ℕ → Task → Ask
 asks file task = record { file = file; task = task }
 
 -- `tool [--limit N] FILE [COMMAND [ARGUMENTS..]]`: a command on the file, or a session
-abbrev pub tool_task : ℕ → List (List ℕ) → Option Task
-tool_task limit [] = Some (Session limit)
-tool_task limit (name ∷ arguments) = task_of limit name arguments
+abbrev pub tool_task : List ℕ → ℕ → List (List ℕ) → Option Task
+tool_task file limit [] = Some (Session limit)
+tool_task file limit (name ∷ arguments) = task_of file limit name arguments
 
 abbrev pub tool_asks_for : Option ℕ → List (List ℕ) → Option Ask
 tool_asks_for None positions = None
 tool_asks_for (Some limit) [] = None
-tool_asks_for (Some limit) (file ∷ words) = option_map (asks file) (tool_task limit words)
+tool_asks_for (Some limit) (file ∷ words) = option_map (asks file) (tool_task file limit words)
 
 abbrev pub tool_asks : Line → Option Ask
 tool_asks line = tool_asks_for (limit_in line) line.positions
@@ -186,6 +189,7 @@ TaskFits file (Verify more suffix) = VerifyFits suffix (file ∷ more)
 TaskFits file (Convert new made prefix) = (new ≢ file) × (0 < made.form.size) × (made.limit ≤ LONGEST_FILE)
 TaskFits file (Mend new) = new ≢ file
 TaskFits file (Merge into prefix limit) = (into ≢ file) × (limit ≤ LONGEST_FILE)
+TaskFits file (Move key into limit) = (into ≢ file) × (length key < 2 ^ 32) × (limit ≤ LONGEST_FILE)
 TaskFits file (Turns options) = options.limit ≤ LONGEST_FILE
 TaskFits file (Session limit) = limit ≤ LONGEST_FILE
 TaskFits file (Generate n seed) = Unit {0}

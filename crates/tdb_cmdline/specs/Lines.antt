@@ -5,4 +5,5 @@ pub mod Create
 pub mod Dump
 pub mod Generate
 pub mod Mend
+pub mod Moving
 pub mod Turns

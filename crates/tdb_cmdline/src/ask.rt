@@ -8,7 +8,7 @@ ghost use Rattle.tdb_cmdline.specs.Ask.{asked, asks, on_file, print_file, repack
 use crate::act::{Act, Verb};
 use crate::lines::create::NewFile;
 use crate::lines::turns::options_in;
-use crate::lines::{backup, convert, dump, generate, mend};
+use crate::lines::{backup, convert, dump, generate, mend, moving};
 use crate::look::Look;
 use crate::names::{Names, Text};
 use crate::options::{Command, Line};
@@ -81,6 +81,14 @@ pub enum Task {
         limit: u64,
     },
 
+    /// To take a key out of it and store it with its value into a file that is there, which has another name. Each of the
+    /// two may have `limit` bytes, before and after.
+    Move {
+        key: Bytes,
+        into: Text,
+        limit: u64,
+    },
+
     /// To take the plays of the script on the input over it, which is opened so.
     Turns(Options),
 
@@ -145,16 +153,17 @@ impl Task {
         }
     }
 
-    /// What the command of this name asks for with these arguments, where the file may have so many bytes.
+    /// What the command of this name asks for on this file with these arguments, where the file may have so many bytes.
     fn named(
         alloc: Global,
+        file: &str,
         limit: u64,
         command: &str,
         arguments: &[Text],
     ) -> Result<Option<Task>, AllocError>
         requires limit { limit ≤ 4294963200 }
-        ensures read { IfOk result (λ task. task ≡ task_asked limit command.now arguments.now) }
-        ensures fits { IfOk result (λ task. IfSome task (λ t. (file : List ℕ) → TaskFits file t)) }
+        ensures read { IfOk result (λ task. task ≡ task_asked file.now limit command.now arguments.now) }
+        ensures fits { IfOk result (λ task. IfSome task (λ t. TaskFits file.now t)) }
     {
         match command {
             "show" => Ok(Task::on(limit, Verb::of_show(alloc, arguments)?)),
@@ -186,6 +195,7 @@ impl Task {
             "list" => Ok(Task::print(limit, Printout::Chains, arguments)),
             "free" => Ok(Task::print(limit, Printout::FreeList, arguments)),
             "repack" => Ok(Task::repack(limit, arguments)),
+            "move" => moving::task_of(alloc, file, limit, arguments),
             "create" => match NewFile::of(limit, arguments) {
                 Some(new) => Ok(Some(Task::Create(new))),
                 None => Ok(None),
@@ -195,14 +205,21 @@ impl Task {
     }
 
     /// What the words behind the file of `tool` ask for, where the file may have so many bytes.
-    fn of_tool(alloc: Global, limit: u64, words: &[Text]) -> Result<Option<Task>, AllocError>
+    fn of_tool(
+        alloc: Global,
+        file: &str,
+        limit: u64,
+        words: &[Text],
+    ) -> Result<Option<Task>, AllocError>
         requires limit { limit ≤ 4294963200 }
-        ensures read { IfOk result (λ task. task ≡ tool_task limit words.now) }
-        ensures fits { IfOk result (λ task. IfSome task (λ t. (file : List ℕ) → TaskFits file t)) }
+        ensures read { IfOk result (λ task. task ≡ tool_task file.now limit words.now) }
+        ensures fits { IfOk result (λ task. IfSome task (λ t. TaskFits file.now t)) }
     {
         match words {
             [] => Ok(Some(Task::Session { limit })),
-            [command, arguments @ ..] => Task::named(alloc, limit, command.as_str(), arguments),
+            [command, arguments @ ..] => {
+                Task::named(alloc, file, limit, command.as_str(), arguments)
+            },
         }
     }
 }
@@ -219,7 +236,7 @@ impl Ask {
         let [file, words @ ..] = line.positions.as_slice() else {
             return Ok(None);
         };
-        let Some(task) = Task::of_tool(alloc, limit, words)? else {
+        let Some(task) = Task::of_tool(alloc, file.as_str(), limit, words)? else {
             return Ok(None);
         };
         let file = String::from_str(alloc, file.as_str())?;

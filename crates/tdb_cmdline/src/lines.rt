@@ -6,4 +6,5 @@ pub(crate) mod create;
 pub(crate) mod dump;
 pub(crate) mod generate;
 pub(crate) mod mend;
+pub(crate) mod moving;
 pub(crate) mod turns;
