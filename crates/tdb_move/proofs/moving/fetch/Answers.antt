@@ -1,0 +1,35 @@
+-- The copy of the key found no memory, the disk failed, or the fetch replied.
+use Rattle.std.proofs.lemmas.Result.{err_from_is_err_and}
+use Rattle.tdb_move.proofs.Parts.{did_failed, did_goes, did_goes_failed, did_went, goes_none, went_none}
+use Rattle.tdb_move.proofs.Steps.{fetched_so, value_not}
+use Rattle.tdb_move.proofs.moving.fetch.Goals as goal
+
+pub returns-in_err-key-clause-went : goal.returns-in_err-key-clause-went
+returns-in_err-key-clause-went g c =
+    let q = err_from_is_err_and c.from_residual.result c.from_residual.ensures.1 in
+    rw (q.1, q.2) (went_none g.D.Disk.tells c.args.group.now c.requires.none)
+
+pub returns-in_err-key-clause-goes : goal.returns-in_err-key-clause-goes
+returns-in_err-key-clause-goes g c =
+    let q = err_from_is_err_and c.from_residual.result c.from_residual.ensures.1 in
+    rw (q.1, q.2) (goes_none g.D.Disk.tells c.args.group.now c.requires.«open»)
+
+pub returns-in_err-reply-clause-went : goal.returns-in_err-reply-clause-went
+returns-in_err-reply-clause-went g c =
+    let q = err_from_is_err_and c.from_residual-in_err-reply.result c.from_residual-in_err-reply.ensures.1 in
+    rw (q.1, q.2) (did_failed g.D.Disk.tells _ _ _ _ c.in_err-reply.field-0.0 c.in_err-reply.ensures)
+
+pub returns-in_err-reply-clause-goes : goal.returns-in_err-reply-clause-goes
+returns-in_err-reply-clause-goes g c =
+    let q = err_from_is_err_and c.from_residual-in_err-reply.result c.from_residual-in_err-reply.ensures.1 in
+    rw (q.1, q.2) (did_goes_failed g.D.Disk.tells _ _ _ _ c.in_err-reply.field-0.0 c.in_err-reply.ensures)
+
+pub returns-clause-went : goal.returns-clause-went
+returns-clause-went g c = did_went g.D.Disk.tells _ _ _ _ c.in_ok-reply.reply c.value_of.result (value_not _ c.value_of.result c.value_of.ensures.fault) c.in_ok-reply.ensures
+
+pub returns-clause-goes : goal.returns-clause-goes
+returns-clause-goes g c = did_goes g.D.Disk.tells _ _ _ _ c.in_ok-reply.reply c.value_of.result c.requires.«open» c.in_ok-reply.ensures
+
+pub returns-clause-fetched : goal.returns-clause-fetched
+returns-clause-fetched g c told ps has =
+    fetched_so g.D.Disk.tells _ _ c.args.key.now c.in_ok-reply.reply _ c.in_ok-key.ensures c.in_ok-reply.ensures c.value_of.result c.value_of.ensures.value c.value_of.ensures.fault told ps has

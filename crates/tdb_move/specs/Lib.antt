@@ -1,0 +1,4 @@
+pub mod Faults
+pub mod Keeping
+pub mod Moved
+pub mod Parts
