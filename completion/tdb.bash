@@ -67,10 +67,15 @@ _tdb() {
     convert:3) _tdb_words "$word" "default jenkins" ;;
     convert:4) _tdb_words "$word" "little big" ;;
     tool:1)
-      _tdb_words "$word" "create show insert store storehex delete erase check info list free repack first next dump
+      _tdb_words "$word" "create show insert store storehex delete move erase check info list free repack first next dump
         keys hexkeys transaction_start transaction_commit transaction_cancel quit"
       ;;
-    tool:3) if [ "${positions[1]}" = create ]; then _tdb_words "$word" "default jenkins"; fi ;;
+    tool:3)
+      case ${positions[1]} in
+        create) _tdb_words "$word" "default jenkins" ;;
+        move) _tdb_names "$word" ;;
+      esac
+      ;;
     tool:4) if [ "${positions[1]}" = create ]; then _tdb_words "$word" "little big"; fi ;;
   esac
 }

@@ -37,10 +37,11 @@ tdb tool FILE                   a session: the lines of standard input are comma
 tdb tool FILE create [SIZE [default|jenkins [little|big]]]   a new file
 tdb tool FILE info|list|free    what the file holds in numbers, its records, its free records
 tdb tool FILE repack            the file is written anew, without the space that it doesn't need
+tdb tool FILE move KEY FILE2    the key goes into another file, with its value
 ";
 
 /// The words behind `tool FILE` that are no lines of a session.
-const ALONE: [&str; 5] = ["create", "info", "list", "free", "repack"];
+const ALONE: [&str; 6] = ["create", "info", "list", "free", "repack", "move"];
 
 /// The names of the commands.
 const COMMANDS: [&str; 9] = [

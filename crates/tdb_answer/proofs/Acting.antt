@@ -12,7 +12,7 @@ use Rattle.tdb_cmdline.specs.declared.act.Verb.TheVariants.{Show, Insert, Store,
 use Rattle.tdb_steps.specs.Wiped.{at_end}
 use Rattle.tdb_open.specs.declared.halt.Refusal.TheVariants.{TooLong}
 use Rattle.tdb_cmdline.specs.declared.ask.Task.{Task}
-use Rattle.tdb_cmdline.specs.declared.ask.Task.TheVariants.{Create, On, Read, Rescue, Print, Repack, Restore, Backup, Verify, Convert, Merge, Mend, Turns, Session, Generate}
+use Rattle.tdb_cmdline.specs.declared.ask.Task.TheVariants.{Create, On, Read, Rescue, Print, Repack, Restore, Backup, Verify, Convert, Merge, Mend, Move, Turns, Session, Generate}
 use Rattle.tdb_cmdline.specs.declared.lines.create.NewFile.{NewFile}
 use Rattle.tdb_answer.specs.declared.commands.create.Creation as Making
 use Rattle.tdb_answer.specs.declared.ending.Ending.{Ending}
@@ -27,6 +27,7 @@ use Rattle.tdb_cmdline.specs.Ask.{Ask}
 use Rattle.tdb_answer.specs.Acts.{reply_of, Does, Breaks, Leaves, Acted, ActedAndTold, OpenedAndActed}
 use Rattle.tdb_answer.specs.Commands.Create.{CreateCause, CreateLeaves}
 use Rattle.tdb_answer.specs.Commands.Merge.{file_untaken}
+use Rattle.tdb_answer.specs.Commands.Moving.{from_untaken}
 use Rattle.tdb_answer.specs.Ending.{TaskDue, Replies, Refuses, TaskCause, task_due, task_failed, task_wanting, task_unlogged, Untaken, MadeSo, of_halt}
 use Rattle.tdb_answer.specs.Left.{ActLeaves, OnLeaves, MakingLeaves, TaskLeaves, Leaving}
 use Rattle.tdb_answer.specs.Commands.Backup.{BackupCause}
@@ -179,6 +180,7 @@ task_wants input (Repack limit) file held = repack_wants limit file held
 task_wants input (Convert new made prefix) file held = (refl, inl (refl, inr (inr refl)))
 task_wants input (Mend new) file held = (stays_synced (held file), inl (refl, inr (inr refl)))
 task_wants input (Merge into prefix limit) file held = (refl, file_untaken refl (inr (inr refl)))
+task_wants input (Move key into limit) file held = from_untaken refl refl (inr (inr refl))
 task_wants input (Create form) file held = refl
 task_wants input (Restore limit) file held = record { left = inl refl; done = λ is. absurd (omega (arith, is)); there = λ some. refl }
 task_wants input (Backup more suffix) file held = record {

@@ -12,7 +12,7 @@ use Rattle.tdb_log.specs.declared.notice.Notice.TheVariants.{Grew}
 use Rattle.tdb_cmdline.specs.Ask.{Ask}
 use Rattle.tdb_cmdline.specs.CopyNames.{copy_name, IsNameAmong}
 use Rattle.tdb_cmdline.specs.declared.ask.Task.{Task}
-use Rattle.tdb_cmdline.specs.declared.ask.Task.TheVariants.{Create, On, Read, Rescue, Print, Repack, Restore, Backup, Verify, Convert, Merge, Mend, Turns, Session, Generate}
+use Rattle.tdb_cmdline.specs.declared.ask.Task.TheVariants.{Create, On, Read, Rescue, Print, Repack, Restore, Backup, Verify, Convert, Merge, Mend, Move, Turns, Session, Generate}
 use Rattle.tdb_open.specs.declared.halt.Fault.{Fault}
 use Rattle.tdb_open.specs.declared.halt.Fault.TheVariants as F
 use Rattle.tdb_open.specs.declared.halt.Halt.{Halt}
@@ -32,7 +32,7 @@ use Rattle.tdb_answer.specs.Commands.Session.{SessionHeard, served_halt}
 use Rattle.tdb_answer.specs.Commands.Turns.{TurnsHeard, turned_nothing}
 use Rattle.tdb_answer.specs.Commands.Verify.{tells_fault, IsKnown}
 use Rattle.tdb_answer.specs.Ending.{Untaken, status_of, of_halt}
-use Rattle.tdb_answer.specs.Heard.{FileHeard, heard_nothing, heard_halt, heard_more, growth, ToldFor, GrowthHeard, ActedHeard, ActHeard, LookHeard, PrintHeard, ConvertHeard, MergeHeard, OpenHeard, BackupHeard, CountHeard, VerifyHeard, count_ending, TaskHeard, AskHeard}
+use Rattle.tdb_answer.specs.Heard.{FileHeard, heard_nothing, heard_halt, heard_more, growth, ToldFor, GrowthHeard, ActedHeard, ActHeard, LookHeard, PrintHeard, ConvertHeard, MergeHeard, MoveHeard, OpenHeard, BackupHeard, CountHeard, VerifyHeard, count_ending, TaskHeard, AskHeard}
 use Rattle.tdb_answer.proofs.Copies.{Held}
 use Rattle.tdb_answer.proofs.Unlogged.{untaken_unlogged}
 use Rattle.tdb_answer.proofs.Verifying.{unverified_some}
@@ -108,6 +108,10 @@ module _ (name : List ℕ) (refusal : TakeRefusal) (e : Ending) (logs : List Log
   merge_untaken limit None gone = (refl, untaken_unlogged name refusal e untaken)
   merge_untaken limit (Some h) gone = untaken_heard _ _ _ h gone
 
+  pub move_untaken : (limit : ℕ) (held : Option History) → (refusal ≡ Take.Missing → held ≡ None) → MoveHeard limit held e logs logs
+  move_untaken limit None gone = (refl, untaken_unlogged name refusal e untaken)
+  move_untaken limit (Some h) gone = untaken_heard _ _ _ h gone
+
   pub print_untaken : (limit : ℕ) (held : Option History) → (refusal ≡ Take.Missing → held ≡ None) → PrintHeard limit held e logs logs
   print_untaken limit None gone = (refl, untaken_unlogged name refusal e untaken)
   print_untaken limit (Some h) gone = untaken_heard _ _ _ h gone
@@ -170,6 +174,10 @@ convert_wanting limit (Some h) logs = heard_nothing (inr refl) refl
 pub merge_wanting : (limit : ℕ) (held : Option History) (logs : List Logged) → MergeHeard limit held E.NoMemory logs logs
 merge_wanting limit None logs = (refl, λ is. cc)
 merge_wanting limit (Some h) logs = heard_nothing (inr refl) refl
+
+pub move_wanting : (limit : ℕ) (held : Option History) (logs : List Logged) → MoveHeard limit held E.NoMemory logs logs
+move_wanting limit None logs = (refl, λ is. cc)
+move_wanting limit (Some h) logs = heard_nothing (inr refl) refl
 
 pub print_wanting : (limit : ℕ) (held : Option History) (logs : List Logged) → PrintHeard limit held E.NoMemory logs logs
 print_wanting limit None logs = (refl, λ is. cc)
@@ -237,6 +245,7 @@ task_unheard (Repack limit) name held logs = print_wanting limit (held name) log
 task_unheard (Convert new made prefix) name held logs = convert_wanting made.limit (held name) logs
 task_unheard (Mend new) name held logs = (refl, λ is. cc)
 task_unheard (Merge into prefix limit) name held logs = merge_wanting limit (held name) logs
+task_unheard (Move key into limit) name held logs = move_wanting limit (held name) logs
 task_unheard (Create form) name held logs = (refl, λ is. cc)
 task_unheard (Restore limit) name held logs = (refl, λ is. cc)
 task_unheard (Backup more suffix) name held logs = inl ((λ is. cc), open_wants (held name) logs)

@@ -16,6 +16,7 @@ pub mod Repacking
 pub mod Converting
 pub mod Mending
 pub mod Merging
+pub mod Moving
 pub mod OneAnswer
 pub mod Copies
 pub mod Verifying

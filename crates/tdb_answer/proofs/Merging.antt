@@ -198,7 +198,7 @@ module _ (input : Input) (task : Task) (into prefix name : List ℕ) (limit : �
 
   -- what the files tell of it
   by_pair : (e : Ending) (h : History) → held name ≡ Some h → CanMerge limit (seen h) → MergeSo limit into (held into) e → Why e
-  by_pair e h there can so = inr (inr (inr (inr (inr (inr (inr (record { into = into; prefix = prefix; limit = limit; was = h; merges = is; there = there; ends = record { can_merge = can; so = so } })))))))
+  by_pair e h there can so = inr (inr (inr (inr (inr (inr (inr (inl (record { into = into; prefix = prefix; limit = limit; was = h; merges = is; there = there; ends = record { can_merge = can; so = so } }))))))))
 
   by_untaken : (e : Ending) → (e ≡ E.DeviceFault) ⊎ (e ≡ E.NoMemory) → (e ≡ E.DeviceFault → Rose before after) → Why e
   by_untaken e (inl fault) rose = subst Why (sym fault) (caused E.DeviceFault (task_failed (rose fault)))

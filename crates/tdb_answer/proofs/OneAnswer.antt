@@ -11,7 +11,7 @@ use Rattle.tdb_space.proofs.OpeningFault.OneFault.{one_opening, never_both_ways}
 use Rattle.tdb_cmdline.specs.declared.act.Act.{Act}
 use Rattle.tdb_cmdline.specs.declared.look.Look.{Look}
 use Rattle.tdb_cmdline.specs.declared.ask.Task.{Task}
-use Rattle.tdb_cmdline.specs.declared.ask.Task.TheVariants.{Create, On, Read, Rescue, Print, Repack, Restore, Backup, Verify, Convert, Merge, Mend, Turns, Session, Generate}
+use Rattle.tdb_cmdline.specs.declared.ask.Task.TheVariants.{Create, On, Read, Rescue, Print, Repack, Restore, Backup, Verify, Convert, Merge, Mend, Move, Turns, Session, Generate}
 use Rattle.tdb_answer.specs.declared.ending.Ending.{Ending}
 use Rattle.tdb_answer.specs.declared.ending.Ending.TheVariants.{Refused}
 use Rattle.tdb_open.specs.declared.halt.Refusal.{Refusal}
@@ -216,6 +216,7 @@ task_one (Restore limit) name None x y p q = absurd p
 task_one (Restore limit) name (Some h) x y p q = p ∙ sym q
 task_one (Backup more suffix) name held x y p q = absurd p
 task_one (Verify more suffix) name held x y p q = absurd p
+task_one (Move key into limit) name held x y p q = absurd p
 task_one (Turns options) name held x y p q = absurd p
 task_one (Session limit) name held x y p q = absurd p
 task_one (Generate commands seed) name None x y p q = absurd p

@@ -10,7 +10,7 @@ use Rattle.tdb_space.specs.Opening.{Opens}
 use Rattle.tdb_cmdline.specs.declared.act.Act.{Act}
 use Rattle.tdb_cmdline.specs.declared.look.Look.{Look}
 use Rattle.tdb_cmdline.specs.declared.ask.Task.{Task}
-use Rattle.tdb_cmdline.specs.declared.ask.Task.TheVariants.{Create, On, Read, Rescue, Print, Repack, Restore, Backup, Verify, Convert, Merge, Mend, Turns, Session, Generate}
+use Rattle.tdb_cmdline.specs.declared.ask.Task.TheVariants.{Create, On, Read, Rescue, Print, Repack, Restore, Backup, Verify, Convert, Merge, Mend, Move, Turns, Session, Generate}
 use Rattle.tdb_cmdline.specs.declared.lines.create.NewFile.{NewFile}
 use Rattle.tdb_answer.specs.declared.ending.Ending.{Ending}
 use Rattle.tdb_answer.specs.declared.ending.Ending.TheVariants.{Replied, Refused, Missing, There, Usage, DeviceFault, InputFault, Malformed, NoMemory, LogFault}
@@ -18,6 +18,8 @@ use Rattle.tdb_answer.specs.declared.ending.Reply.{Reply}
 use Rattle.tdb_answer.specs.declared.ending.Reply.TheVariants.{Done, Value, Escaped, Dumped, Restored, Copied, Verified, KeyMissing, KeyThere, NoTransaction, Full, Number, Pair, End, Played, Closed, Generated}
 use Rattle.tdb_merge.specs.declared.fault.MergeFault.{MergeFault}
 use Rattle.tdb_merge.specs.declared.fault.MergeFault.TheVariants as M
+use Rattle.tdb_move.specs.declared.fault.MoveFault.{MoveFault}
+use Rattle.tdb_move.specs.declared.fault.MoveFault.TheVariants as V
 use Rattle.tdb_open.specs.declared.halt.Halt.{Halt}
 use Rattle.tdb_open.specs.declared.halt.Halt.TheVariants as H
 use Rattle.tdb_open.specs.declared.halt.Refusal.{Refusal}
@@ -38,6 +40,7 @@ use Rattle.tdb_answer.specs.Commands.Mend.{MendEnds, MendLeft, MendLeaves, HasNo
 use Rattle.tdb_answer.specs.Damaged.{CanMend}
 use Rattle.tdb_answer.proofs.Damaged.{not_mended, unmendable_three}
 use Rattle.tdb_answer.specs.Commands.Merge.{merge_told, MergeEnds, MergedOn, MergeLeft, merge_unopened, merge_ran, MergeInto, into_untaken, into_taken, MergeLeaves, file_untaken, file_halted, file_read}
+use Rattle.tdb_answer.specs.Commands.Moving.{move_told, MoveSo, WasOpened, NotOpened, MovedOn, MoveLeft, move_unopened, move_ran, MoveInto, other_untaken, other_taken, from_unopened, from_opened, MoveLeaves, from_untaken, from_taken}
 use Rattle.tdb_answer.specs.Commands.Restore.{of_input, HeardBy}
 use Rattle.tdb_answer.specs.Commands.Backup.{BackupLeaves, BackupStops, EndsBackup, IsLeftOf, IsUntaken}
 use Rattle.tdb_answer.specs.Commands.Verify.{VerifyLeaves, EndsVerify}
@@ -54,7 +57,7 @@ use Rattle.tdb_gen.specs.declared.summary.Summary.{Summary}
 use Rattle.tdb_gen.specs.Summary.{summary_text}
 use Rattle.tdb_answer.specs.Commands.Generate.{HasMade, GenLeaves}
 use Rattle.tdb_open.specs.Opening.{opened_bytes, CanRead, OpensToRead, HeldOrUndone, SameOrUndone, UndoneIfOpen, OpenedBelow}
-use Rattle.tdb_answer.specs.Run.{Run, StopsWith, MayEnd, is_due, is_read, is_copied, is_verified, is_played, is_served, is_generated, is_repacked, is_converted, is_merged, is_mended, call_failed, memory_wanting, log_failed, TellsFault, ActsOn, LooksInto, Rescues, PrintsOf, Repacks, Converts, Mends, RefusesExactly, KeepsAll, EndsMidway, ActRun, PrintRun, RepackRun, MakingRun, RestoringRun, BackupRun, VerifyRun, ConvertRun, WasMerged, MergeRun, MendRun, TurnsRun, SessionRun, GeneratingRun, IsCopyName, LeavesFiles, Accounted}
+use Rattle.tdb_answer.specs.Run.{Run, StopsWith, MayEnd, is_due, is_read, is_copied, is_verified, is_played, is_served, is_generated, is_repacked, is_converted, is_merged, is_mended, is_moved, call_failed, memory_wanting, log_failed, TellsFault, ActsOn, LooksInto, Rescues, PrintsOf, Repacks, Converts, Mends, RefusesExactly, KeepsAll, EndsMidway, ActRun, PrintRun, RepackRun, MakingRun, RestoringRun, BackupRun, VerifyRun, ConvertRun, WasMerged, MergeRun, WasMoved, MoveRun, MendRun, TurnsRun, SessionRun, GeneratingRun, IsCopyName, LeavesFiles, Accounted}
 use Rattle.tdb_answer.proofs.Held.{same_held, same_or_other, held_kept}
 use Rattle.tdb_answer.proofs.Copies.{stopped_kept, stopped_weaker, backup_zero}
 use Rattle.tdb_answer.proofs.Verifying.{verified_zero, all_left_weaker, verify_kept}
@@ -240,7 +243,9 @@ asked_cause ask a held input before after e is (inr (inr (inr (inr (inl ends))))
     is_repacked e ends.limit a.file ends.was (sym is ∙ ap (λ t. Some (record { file = a.file; task = t })) ends.repacks) ends.there ends.ends
 asked_cause ask a held input before after e is (inr (inr (inr (inr (inr (inr (inl ends))))))) =
     is_mended e ends.new a.file ends.was (sym is ∙ ap (λ t. Some (record { file = a.file; task = t })) ends.mends) ends.there ends.ends
-asked_cause ask a held input before after e is (inr (inr (inr (inr (inr (inr (inr ends))))))) =
+asked_cause ask a held input before after e is (inr (inr (inr (inr (inr (inr (inr (inr ends)))))))) =
+    is_moved e ends.key ends.into a.file ends.limit (sym is ∙ ap (λ t. Some (record { file = a.file; task = t })) ends.moves) ends.ends
+asked_cause ask a held input before after e is (inr (inr (inr (inr (inr (inr (inr (inl ends)))))))) =
     is_merged e ends.into ends.prefix a.file ends.limit ends.was (sym is ∙ ap (λ t. Some (record { file = a.file; task = t })) ends.merges) ends.there ends.ends
 asked_cause ask a held input before after e is (inr (inr (inr (inr (inr (inl ends)))))) =
     is_converted e ends.made ends.prefix ends.new a.file ends.was (sym is ∙ ap (λ t. Some (record { file = a.file; task = t })) ends.converts) ends.there ends.ends
@@ -256,9 +261,10 @@ abbrev asks_copies : Option Ask → Bool
 asks_copies None = false
 asks_copies (Some ask) = task_copies ask.task
 
--- a verification, turns, a session and generated commands are due to nothing at one name
+-- a verification, a move, turns, a session and generated commands are due to nothing at one name
 abbrev is_other : Task → Bool
 is_other (Verify more suffix) = true
+is_other (Move key into limit) = true
 is_other (Turns options) = true
 is_other (Session limit) = true
 is_other (Generate commands seed) = true
@@ -362,6 +368,7 @@ module _ (run : Run) (e : Ending) (cause : MayEnd run.ask run.old run.input run.
       of _ (is_converted x made prefix new name h asks there ends) (inl all) due read copies undue anew converting mending merging = inl (subst P (sym all.exits) (converting made prefix new name h asks there ends))
       of _ (is_mended x new name h asks there ends) (inl all) due read copies undue anew converting mending merging = inl (subst P (sym all.exits) (mending new name h asks there ends))
       of _ (is_merged x into prefix name limit h asks there ends) (inl all) due read copies undue anew converting mending merging = inl (subst P (sym all.exits) (merging into prefix name limit h asks there ends))
+      of _ (is_moved x key into name limit asks so) (inl all) due read copies undue anew converting mending merging = inl (subst P (sym all.exits) (undue (Move key into limit) name asks refl (λ y none. none)))
       of _ (call_failed a asks rose) (inl all) due read copies undue anew converting mending merging = inr (inl all.exits)
       of _ memory_wanting (inl all) due read copies undue anew converting mending merging = inr (inr (inl all.exits))
       of _ (log_failed a asks) (inl all) due read copies undue anew converting mending merging = inr (inr (inr (inr all.exits)))
@@ -970,6 +977,7 @@ asked_counted tells (Some ask) before after t told counted = of ask.task counted
     of (Verify more suffix) counted = counted
     of (Turns options) counted = record { never_falls = counted.never_falls; failed = λ is. counted.failed is told; sound = counted.sound }
     of (Merge into prefix limit) counted = record { never_falls = counted.never_falls; failed = λ is. counted.failed is told; sound = counted.sound }
+    of (Move key into limit) counted = record { never_falls = counted.never_falls; failed = λ is. counted.failed is told; sound = counted.sound }
     of (Session limit) counted = record { never_falls = counted.never_falls; failed = λ is. counted.failed is told; sound = counted.sound }
     of (Generate commands seed) counted = record { never_falls = counted.never_falls; failed = λ is. counted.failed is told; sound = counted.sound }
 
@@ -991,6 +999,7 @@ asked_failed tells (Some ask) before after t counted is none = of ask.task none 
     of (Verify more suffix) none counted = counted.failed is
     of (Turns options) none counted = absurd (false≢true (sym none))
     of (Merge into prefix limit) none counted = absurd (false≢true (sym none))
+    of (Move key into limit) none counted = absurd (false≢true (sym none))
     of (Session limit) none counted = absurd (false≢true (sym none))
     of (Generate commands seed) none counted = absurd (false≢true (sym none))
 
@@ -1012,6 +1021,7 @@ asked_sound tells (Some ask) before after t counted other = of ask.task counted
     of (Verify more suffix) counted = counted.sound other
     of (Turns options) counted = counted.sound other
     of (Merge into prefix limit) counted = counted.sound other
+    of (Move key into limit) counted = counted.sound other
     of (Session limit) counted = counted.sound other
     of (Generate commands seed) counted = counted.sound other
 
@@ -1260,6 +1270,11 @@ module _ (before after status : ℕ) where
   untaken_some name held t (inr (inl fault)) out is = halt_some H.Device (subst (Exits status) fault out) is
   untaken_some name held t (inr (inr wanting)) out is = memory_some (subst (Exits status) wanting out) is
 
+  exits_so : (t : Ending) → Exits status t → (status ≡ status_of t) ⊎ (status ≡ 5) ⊎ (status ≡ 8)
+  exits_so t (inl own) = inl own
+  exits_so t (inr (inl want)) = inr (inl want.0)
+  exits_so t (inr (inr eight)) = inr (inr eight)
+
   merge_answered : (answer : Result (Unit {0}) MergeFault) → Exits status (merge_told answer) → status ≡ 0 → answer ≡ Ok tt
   merge_answered (Ok v) out is = refl
   merge_answered (Err (M.Full len need)) out is = absurd (full_some len need out is)
@@ -1283,13 +1298,8 @@ module _ (before after status : ℕ) where
     merged_done t (file_halted h halt there same right ends) out is = absurd (halt_some halt (subst (Exits status) ends out) is)
     merged_done t (file_read h there can left) out is = merged_into h t there left out is
 
-    merge_exits : (t : Ending) → Exits status t → (status ≡ status_of t) ⊎ (status ≡ 5) ⊎ (status ≡ 8)
-    merge_exits t (inl own) = inl own
-    merge_exits t (inr (inl want)) = inr (inl want.0)
-    merge_exits t (inr (inr eight)) = inr (inr eight)
-
     merge_run : (t : Ending) → Exits status t → MergeLeaves limit prefix file into held old t now → MergeRun limit prefix file into held old status now
-    merge_run t out left = record { ending = t; exits = merge_exits t out; left = left; done = λ is. merged_done t left out is }
+    merge_run t out left = record { ending = t; exits = exits_so t out; left = left; done = λ is. merged_done t left out is }
 
   -- it is as it was, or undone, where the status says neither that they were stored, nor that there was no room for them,
   -- nor of a fault, nor of want of memory
@@ -1322,6 +1332,82 @@ module _ (before after status : ℕ) where
     merge_kept limit prefix file into held old now t out (file_untaken same untaken) = inl same
     merge_kept limit prefix file into held old now t out (file_halted h halt there same right ends) = inl same
     merge_kept limit prefix file into held old now t out (file_read h there can left) = into_same limit prefix (seen h) into old now t out left
+
+  -- What a run leaves at the names of a file whose key is to be moved into another one, and of that: the status isn't 0
+  -- unless it was moved.
+  key_some : Exits status (Replied KeyMissing) → status ≡ 0 → ⊥
+  key_some (inl own) is = let one : status ≡ 1 = own in omega (arith, one, is)
+  key_some (inr (inl want)) is = false≢true want.1
+  key_some (inr (inr eight)) is = omega (arith, eight, is)
+
+  move_answered : (answer : Result (Unit {0}) MoveFault) → Exits status (move_told answer) → status ≡ 0 → answer ≡ Ok tt
+  move_answered (Ok v) out is = refl
+  move_answered (Err V.KeyMissing) out is = absurd (key_some out is)
+  move_answered (Err (V.Full len need)) out is = absurd (full_some len need out is)
+  move_answered (Err V.Device) out is = absurd (halt_some H.Device out is)
+  move_answered (Err V.Log) out is = absurd (halt_some H.Log out is)
+  move_answered (Err V.Memory) out is = absurd (memory_some out is)
+
+  module _ (limit : ℕ) (key file into : List ℕ) (held now_held old now : Option History) where
+    moved_all : (from last i j : History) (t : Ending) → MoveLeft limit key from last i j t → Exits status t → status ≡ 0 → MovedOn limit key from last i j (Ok tt)
+    moved_all from last i j _ (move_unopened halt same halted) out is = absurd (halt_some halt out is)
+    moved_all from last i j _ (move_ran answer on) out is = subst (MovedOn limit key from last i j) (move_answered answer out is) on
+
+    moved_into : (h from last : History) → held ≡ Some h → now_held ≡ Some last → WasOpened limit h from → (t : Ending) → MoveInto limit key into from last old now t → Exits status t → status ≡ 0 → WasMoved limit key held now_held old now
+    moved_into h from last there stands opened t (other_untaken same kept untaken) out is = absurd (untaken_some into old t untaken out is)
+    moved_into h from last there stands opened t (other_taken i j stood now_stands left) out is =
+        record { was = h; there = there; from = from; opened = opened; now_from = last; stands = stands; before = i; stood = stood; after = j; now_stands = now_stands; moved = moved_all from last i j t left out is }
+
+    moved_done : (t : Ending) → MoveLeaves limit key file into held now_held old now t → Exits status t → status ≡ 0 → WasMoved limit key held now_held old now
+    moved_done t (from_untaken same kept untaken) out is = absurd (untaken_some file held t untaken out is)
+    moved_done t (from_taken h last there stands (from_unopened halt halted same ends)) out is = absurd (halt_some halt (subst (Exits status) ends out) is)
+    moved_done t (from_taken h last there stands (from_opened from opened left)) out is = moved_into h from last there stands opened t left out is
+
+    move_run : (t : Ending) → Exits status t → MoveLeaves limit key file into held now_held old now t → MoveRun limit key file into held now_held old now status
+    move_run t out left = record { ending = t; exits = exits_so t out; left = left; done = λ is. moved_done t left out is }
+
+  -- each is as it was, or undone, where the status says neither that it was moved, nor that the key isn't there, nor that
+  -- there was no room for it, nor of a fault, nor of want of memory
+  module _ (keeps : KeepsAll status) (one : status ≡ 1 → ⊥) (five : status ≡ 5 → ⊥) (six : status ≡ 6 → ⊥) (limit : ℕ) (key file into : List ℕ) (held now_held old now : Option History) where
+    move_ended : (answer : Result (Unit {0}) MoveFault) → Exits status (move_told answer) → ⊥
+    move_ended (Ok v) (inl own) = keeps.0 own
+    move_ended (Ok v) (inr (inl want)) = five want.0
+    move_ended (Ok v) (inr (inr eight)) = keeps.2 eight
+    move_ended (Err V.KeyMissing) (inl own) = one own
+    move_ended (Err V.KeyMissing) (inr (inl want)) = five want.0
+    move_ended (Err V.KeyMissing) (inr (inr eight)) = keeps.2 eight
+    move_ended (Err (V.Full len need)) (inl own) = six own
+    move_ended (Err (V.Full len need)) (inr (inl want)) = five want.0
+    move_ended (Err (V.Full len need)) (inr (inr eight)) = keeps.2 eight
+    move_ended (Err V.Device) out = fault_no_keep before after status (fault_exits before after status out) keeps
+    move_ended (Err V.Log) out = log_no_keep before after status (log_exits before after status out) keeps
+    move_ended (Err V.Memory) out = memory_no_keep before after status (memory_exits before after status out) keeps five
+
+    halt_same : (h k : History) (halt : Halt) → Exits status (of_halt halt) → NotOpened limit h k halt → SameOrUndone h k
+    halt_same h k (H.Refused refusal) out not = opened_same (session_options limit) h k not.halted.1
+    halt_same h k H.Device out not = absurd (fault_no_keep before after status (fault_exits before after status out) keeps)
+    halt_same h k H.Memory out not = not.halted
+    halt_same h k H.Log out not = not.halted
+
+    abbrev BothSame : Type 0
+    BothSame = HeldOrUndone held now_held × HeldOrUndone old now
+
+    opened_kept : (h from last : History) → held ≡ Some h → now_held ≡ Some last → WasOpened limit h from → last ≡ from → HeldOrUndone held now_held
+    opened_kept h from last there stands opened same = held_kept held now_held h last there stands (subst (SameOrUndone h) (sym same) (opened_same (session_options limit) h from opened.is_opened.left))
+
+    left_kept : (h from last i j : History) → held ≡ Some h → now_held ≡ Some last → WasOpened limit h from → old ≡ Some i → now ≡ Some j → (t : Ending) → Exits status t → MoveLeft limit key from last i j t → BothSame
+    left_kept h from last i j there stands opened stood now_stands _ out (move_unopened halt same not) =
+        (opened_kept h from last there stands opened same, held_kept old now i j stood now_stands (halt_same i j halt out not))
+    left_kept h from last i j there stands opened stood now_stands _ out (move_ran answer on) = absurd (move_ended answer out)
+
+    moving_kept : (h from last : History) → held ≡ Some h → now_held ≡ Some last → WasOpened limit h from → (t : Ending) → Exits status t → MoveInto limit key into from last old now t → BothSame
+    moving_kept h from last there stands opened t out (other_untaken same kept untaken) = (opened_kept h from last there stands opened same, inl kept)
+    moving_kept h from last there stands opened t out (other_taken i j stood now_stands left) = left_kept h from last i j there stands opened stood now_stands t out left
+
+    move_kept : (t : Ending) → Exits status t → MoveLeaves limit key file into held now_held old now t → BothSame
+    move_kept t out (from_untaken same kept untaken) = (inl same, inl kept)
+    move_kept t out (from_taken h last there stands (from_unopened halt not same ends)) = (held_kept held now_held h last there stands (halt_same h last halt (subst (Exits status) ends out) not), inl same)
+    move_kept t out (from_taken h last there stands (from_opened from opened left)) = moving_kept h from last there stands opened t out left
 
 module _ (before after status : ℕ) where
   -- the statuses of the endings of generated commands
@@ -1455,6 +1541,11 @@ module _ (run : Run) (logs later : List Logged) (t : Ending) (out : Exits run.st
       let at = asked_left (Merge into prefix limit) name asks in
       (at.0, merge_run run.faults_before run.faults_after run.status limit prefix name into (run.old name) (run.old into) (run.now into) t out at.1)
 
+  moved : (key into name : List ℕ) (limit : ℕ) → run.ask ≡ Some (record { file = name; task = Move key into limit })
+      → MoveRun limit key name into (run.old name) (run.now name) (run.old into) (run.now into) run.status
+  moved key into name limit asks =
+      move_run run.faults_before run.faults_after run.status limit key name into (run.old name) (run.now name) (run.old into) (run.now into) t out (asked_left (Move key into limit) name asks)
+
   turned : (options : Options) (name : List ℕ) (old : History) → run.ask ≡ Some (record { file = name; task = Turns options }) → run.old name ≡ Some old
       → (h : History) × (run.now name ≡ Some h) × TurnsRun options run.input run.output old run.faults_before run.faults_after run.status h logs later
   turned options name old asks there =
@@ -1570,6 +1661,12 @@ module _ (run : Run) (logs later : List Logged) (t : Ending) (out : Exits run.st
         | inl own ↦ subst (λ n. run.now n ≡ run.old n) (sym own) at.0
         | inr other ↦ same name (λ may. elim may [ inl own ↦ other own | inr made ↦ apart made ])
       ])
+  task_kept keeps (Move key into limit) file name asks midway same at copy =
+      let both = move_kept run.faults_before run.faults_after run.status keeps (λ is. midway (inl is)) (λ is. midway (inr (inl is))) (λ is. midway (inr (inr is))) limit key file into (run.old file) (run.now file) (run.old into) (run.now into) t out at in
+      elim (same_or_other name file) [
+        | inl own ↦ subst (λ n. HeldOrUndone (run.old n) (run.now n)) (sym own) both.0
+        | inr other ↦ at_name name into both.1 (λ apart. same name (λ may. elim may [ inl own ↦ other own | inr made ↦ apart made ]))
+      ]
   task_kept keeps (Create form) file name asks midway same at copy =
       at_name name file
       (elim ((making_run run.faults_before run.faults_after run.status form (run.old file) (run.now file) t out counted at).kept keeps) [
@@ -1625,6 +1722,7 @@ module _ (run : Run) (logs later : List Logged) (t : Ending) (out : Exits run.st
     converted = converted;
     mended = mended;
     merged = merged;
+    moved = moved;
     turned = turned;
     unturned = λ options name asks none. subst (λ o. TurnsLeave options o t (run.now name)) none (asked_left (Turns options) name asks);
     served = served;

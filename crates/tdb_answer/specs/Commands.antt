@@ -17,6 +17,7 @@ pub mod Repack
 pub mod Convert
 pub mod Mend
 pub mod Merge
+pub mod Moving
 pub mod Restore
 pub mod Backup
 pub mod Verify

@@ -11,7 +11,7 @@ use Rattle.tdb_dump.specs.Line.{data_line, pair_line}
 use Rattle.tdb_cmdline.specs.declared.act.Act.{Act}
 use Rattle.tdb_cmdline.specs.declared.look.Look.{Look}
 use Rattle.tdb_cmdline.specs.declared.ask.Task.{Task}
-use Rattle.tdb_cmdline.specs.declared.ask.Task.TheVariants.{Create, On, Read, Rescue, Print, Repack, Restore, Backup, Verify, Convert, Merge, Mend, Turns, Session, Generate}
+use Rattle.tdb_cmdline.specs.declared.ask.Task.TheVariants.{Create, On, Read, Rescue, Print, Repack, Restore, Backup, Verify, Convert, Merge, Mend, Move, Turns, Session, Generate}
 use Rattle.tdb_answer.specs.declared.ending.Ending.{Ending}
 use Rattle.tdb_answer.specs.declared.ending.Ending.TheVariants.{Replied, Refused, Missing, There, Usage, DeviceFault, InputFault, Malformed, NoMemory, LogFault}
 use Rattle.tdb_answer.specs.declared.ending.Reply.TheVariants.{Done, Value, Escaped, Dumped, Restored, Copied, Verified, KeyMissing, KeyThere, NoTransaction, Full, Number, Pair, End, Played, Closed, Generated}
@@ -143,8 +143,8 @@ MakingDue file e =
 -- How a task on the file of this name ends, by what is held there, where no call failed and memory sufficed. An act, a
 -- look, a rescue and a printing are on a file that is there; a file is made where none is. How a restore ends where no
 -- file is depends on its input, as turns and a session do, how a backup and a verification end on all their files
--- (`BackupEnds`, `VerifyEnds`), and how generated commands end on how they were done (`GenSo`), so none is due to what
--- is held at one name. Where a file that is written anew isn't refused, it depends on where its records come to lie
+-- (`BackupEnds`, `VerifyEnds`), as the move of a key does on both (`MoveSo`), and how generated commands end on how they
+-- were done (`GenSo`), so none is due to what is held at one name. Where a file that is written anew isn't refused, it depends on where its records come to lie
 -- (`RepackEnds`), as where another file is made of its pairs, or they are stored into one, and on what stands at the
 -- name of that (`ConvertEnds`, `MendEnds`, `MergeEnds`).
 abbrev pub TaskDue : Task → List ℕ → Option History → Ending → Type 0
@@ -170,6 +170,7 @@ TaskDue (Mend new) name None e = e ≡ Missing name
 TaskDue (Mend new) name (Some h) e = RefusesToMend (seen h) e
 TaskDue (Merge into prefix limit) name None e = e ≡ Missing name
 TaskDue (Merge into prefix limit) name (Some h) e = RefusesToReadBelow limit (seen h) e
+TaskDue (Move key into limit) name held e = ⊥
 TaskDue (Turns options) name held e = ⊥
 TaskDue (Session limit) name held e = ⊥
 TaskDue (Generate commands seed) name None e = ⊥
@@ -200,7 +201,8 @@ pub record CountedIf (tells : Bool) (before after : ℕ) (e : Ending) : Type 0 w
   pub failed : e ≡ DeviceFault → IsTrue tells → Rose before after
   pub sound : (e ≡ DeviceFault → ⊥) → after ≡ before
 
--- the tasks whose commands are those of openers: turns, a session, generated commands, and pairs that are merged
+-- the tasks whose commands are those of openers: turns, a session, generated commands, pairs that are merged, and a key
+-- that is moved
 abbrev pub has_openers : Task → Bool
 has_openers (On act) = false
 has_openers (Read look) = false
@@ -214,6 +216,7 @@ has_openers (Verify more suffix) = false
 has_openers (Convert new made prefix) = false
 has_openers (Mend new) = false
 has_openers (Merge into prefix limit) = true
+has_openers (Move key into limit) = true
 has_openers (Turns options) = true
 has_openers (Session limit) = true
 has_openers (Generate commands seed) = true
@@ -236,6 +239,7 @@ CountedFor tells (Verify more suffix) before after e = CountedBy before after e
 CountedFor tells (Convert new made prefix) before after e = CountedBy before after e
 CountedFor tells (Mend new) before after e = CountedBy before after e
 CountedFor tells (Merge into prefix limit) before after e = CountedIf tells before after e
+CountedFor tells (Move key into limit) before after e = CountedIf tells before after e
 CountedFor tells (Turns options) before after e = CountedIf tells before after e
 CountedFor tells (Session limit) before after e = CountedIf tells before after e
 CountedFor tells (Generate commands seed) before after e = CountedIf tells before after e

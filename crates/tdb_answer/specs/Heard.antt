@@ -15,7 +15,7 @@ use Rattle.tdb_open.specs.declared.opening.Opened.{Opened}
 use Rattle.tdb_cmdline.specs.CopyNames.{copy_name}
 use Rattle.tdb_cmdline.specs.Ask.{Ask}
 use Rattle.tdb_cmdline.specs.declared.ask.Task.{Task}
-use Rattle.tdb_cmdline.specs.declared.ask.Task.TheVariants.{Create, On, Read, Rescue, Print, Repack, Restore, Backup, Verify, Convert, Merge, Mend, Turns, Session, Generate}
+use Rattle.tdb_cmdline.specs.declared.ask.Task.TheVariants.{Create, On, Read, Rescue, Print, Repack, Restore, Backup, Verify, Convert, Merge, Mend, Move, Turns, Session, Generate}
 use Rattle.tdb_answer.specs.declared.ending.Ending.{Ending}
 use Rattle.tdb_answer.specs.declared.ending.Ending.TheVariants.{Replied, DeviceFault, NoMemory, LogFault}
 use Rattle.tdb_answer.specs.declared.ending.Reply.{Reply}
@@ -94,6 +94,12 @@ abbrev pub MergeHeard : ℕ → Option History → Ending → List Logged → Li
 MergeHeard limit None e old new = NothingHeard e old new
 MergeHeard limit (Some h) e old new = FileHeard (seen h) (ReadingBelowHeard limit (seen h)) e (λ mid later. Unit {0}) old new
 
+-- and where it was opened as for a session, and a key of it is moved into another one: nothing is said of what they heard
+-- of that
+abbrev pub MoveHeard : ℕ → Option History → Ending → List Logged → List Logged → Type 0
+MoveHeard limit None e old new = NothingHeard e old new
+MoveHeard limit (Some h) e old new = FileHeard (opened_bytes (seen h)) (BelowHeard limit (seen h)) e (λ mid later. Unit {0}) old new
+
 -- and where it was opened to be copied or counted
 abbrev pub OpenHeard : Option History → Ending → List Logged → List Logged → Type 0
 OpenHeard None e old new = NothingHeard e old new
@@ -143,6 +149,7 @@ TaskHeard (Verify more suffix) name held now e old new = VerifyHeard suffix (nam
 TaskHeard (Convert other made prefix) name held now e old new = ConvertHeard made.limit (held name) e old new
 TaskHeard (Mend other) name held now e old new = NothingHeard e old new
 TaskHeard (Merge into prefix limit) name held now e old new = MergeHeard limit (held name) e old new
+TaskHeard (Move key into limit) name held now e old new = MoveHeard limit (held name) e old new
 TaskHeard (Turns options) name held now e old new = TurnsHeard options (held name) e old new
 TaskHeard (Session limit) name held now e old new = SessionHeard limit (held name) e old new
 TaskHeard (Generate commands seed) name held now e old new = GenHeard commands seed (now name) e old new

@@ -3,7 +3,7 @@ use Rattle.std.specs.Prelude.{◌≡◌, ◌<◌, ◌⊎◌, ℕ, true, false, I
 use Rattle.tdb_disk.specs.History.{History, seen}
 use Rattle.tdb_cmdline.specs.declared.act.Act.{Act}
 use Rattle.tdb_cmdline.specs.declared.ask.Task.{Task}
-use Rattle.tdb_cmdline.specs.declared.ask.Task.TheVariants.{Create, On, Read, Rescue, Print, Repack, Restore, Backup, Verify, Convert, Merge, Mend, Turns, Session, Generate}
+use Rattle.tdb_cmdline.specs.declared.ask.Task.TheVariants.{Create, On, Read, Rescue, Print, Repack, Restore, Backup, Verify, Convert, Merge, Mend, Move, Turns, Session, Generate}
 use Rattle.tdb_answer.specs.declared.ending.Ending.{Ending}
 use Rattle.tdb_answer.specs.declared.ending.Ending.TheVariants.{Replied, Refused, Missing, There, Usage, DeviceFault, InputFault, Malformed, NoMemory, LogFault}
 use Rattle.tdb_answer.specs.declared.ending.Reply.TheVariants.{Done, Restored}
@@ -21,6 +21,7 @@ use Rattle.tdb_answer.specs.Commands.Repack.{RepackLeaves}
 use Rattle.tdb_answer.specs.Commands.Convert.{ConvertLeaves}
 use Rattle.tdb_answer.specs.Commands.Mend.{MendLeaves, StaysSynced}
 use Rattle.tdb_answer.specs.Commands.Merge.{MergeLeaves}
+use Rattle.tdb_answer.specs.Commands.Moving.{MoveLeaves}
 use Rattle.tdb_answer.specs.Commands.Restore.{IsRestored}
 use Rattle.tdb_answer.specs.Commands.Session.{StaysThere}
 use Rattle.tdb_answer.specs.Commands.Turns.{TurnsLeave}
@@ -88,6 +89,7 @@ TaskLeaves input (Verify more suffix) file old e now = VerifyLeaves suffix (file
 TaskLeaves input (Convert new made prefix) file old e now = (now file ≡ old file) × ConvertLeaves made prefix file new (old file) (old new) e (now new)
 TaskLeaves input (Mend new) file old e now = StaysSynced (old file) (now file) × MendLeaves file new (old file) (old new) e (now new)
 TaskLeaves input (Merge into prefix limit) file old e now = (now file ≡ old file) × MergeLeaves limit prefix file into (old file) (old into) e (now into)
+TaskLeaves input (Move key into limit) file old e now = MoveLeaves limit key file into (old file) (now file) (old into) (now into) e
 TaskLeaves input (Turns options) file old e now = TurnsLeave options (old file) e (now file)
 TaskLeaves input (Session limit) file old e now = StaysThere (old file) (now file)
 TaskLeaves input (Generate commands seed) file old e now = GenLeaves commands seed (old file) e (now file)
@@ -105,6 +107,7 @@ MayChange (Restore limit) file name = name ≡ file
 MayChange (Convert new made prefix) file name = (name ≡ file) ⊎ (name ≡ new)
 MayChange (Mend new) file name = (name ≡ file) ⊎ (name ≡ new)
 MayChange (Merge into prefix limit) file name = (name ≡ file) ⊎ (name ≡ into)
+MayChange (Move key into limit) file name = (name ≡ file) ⊎ (name ≡ into)
 MayChange (Turns options) file name = name ≡ file
 MayChange (Session limit) file name = name ≡ file
 MayChange (Generate commands seed) file name = name ≡ file

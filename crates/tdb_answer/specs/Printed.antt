@@ -4,7 +4,7 @@ use Rattle.tdb_disk.specs.Count.{Rose}
 use Rattle.tdb_disk.specs.History.{History}
 use Rattle.tdb_answer.specs.declared.ending.Unprinted.{Unprinted}
 use Rattle.tdb_cmdline.specs.declared.ask.Task.{Task}
-use Rattle.tdb_cmdline.specs.declared.ask.Task.TheVariants.{Create, On, Read, Rescue, Print, Repack, Restore, Backup, Verify, Convert, Merge, Mend, Turns, Session, Generate}
+use Rattle.tdb_cmdline.specs.declared.ask.Task.TheVariants.{Create, On, Read, Rescue, Print, Repack, Restore, Backup, Verify, Convert, Merge, Mend, Move, Turns, Session, Generate}
 use Rattle.tdb_answer.specs.declared.ending.Ending.{Ending}
 use Rattle.tdb_answer.specs.declared.ending.Ending.TheVariants.{Replied}
 use Rattle.tdb_answer.specs.declared.ending.Reply.TheVariants.{Restored, Copied, Verified, Closed}
@@ -35,6 +35,7 @@ TaskText (Verify more suffix) name held e text = VerifyText suffix (name ∷ mor
 TaskText (Convert new made prefix) name held e text = StandsBefore converted_line e text
 TaskText (Mend new) name held e text = MendText (held name) e text
 TaskText (Merge into prefix limit) name held e text = text ≡ []
+TaskText (Move key into limit) name held e text = text ≡ []
 TaskText (Turns options) name held e text = TurnsText options (held name) e text
 TaskText (Session limit) name held e text = SessionText limit (held name) e text
 TaskText (Generate commands seed) name held e text = text ≡ []
@@ -59,6 +60,7 @@ task_tells (Verify more suffix) files output = output && files
 task_tells (Convert new made prefix) files output = output
 task_tells (Mend new) files output = output && files
 task_tells (Merge into prefix limit) files output = output
+task_tells (Move key into limit) files output = output
 task_tells (Turns options) files output = output && files
 task_tells (Session limit) files output = output && files
 task_tells (Generate commands seed) files output = output

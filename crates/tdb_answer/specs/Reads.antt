@@ -2,7 +2,7 @@
 use Rattle.std.specs.Prelude.{◌≡◌, ◌⊎◌, ℕ, Bool, true, false, Option, None, Some, List, ◌∷◌}
 use Rattle.tdb_disk.specs.History.{History, seen}
 use Rattle.tdb_cmdline.specs.declared.ask.Task.{Task}
-use Rattle.tdb_cmdline.specs.declared.ask.Task.TheVariants.{Create, On, Read, Rescue, Print, Repack, Restore, Backup, Verify, Convert, Merge, Mend, Turns, Session, Generate}
+use Rattle.tdb_cmdline.specs.declared.ask.Task.TheVariants.{Create, On, Read, Rescue, Print, Repack, Restore, Backup, Verify, Convert, Merge, Mend, Move, Turns, Session, Generate}
 use Rattle.tdb_answer.specs.declared.ending.Ending.{Ending}
 use Rattle.tdb_cmdline.specs.Ask.{Ask}
 use Rattle.tdb_answer.specs.Commands.Backup.{BackupEnds}
@@ -10,6 +10,7 @@ use Rattle.tdb_answer.specs.Commands.Repack.{RepackEnds}
 use Rattle.tdb_answer.specs.Commands.Convert.{ConvertEnds}
 use Rattle.tdb_answer.specs.Commands.Mend.{MendEnds}
 use Rattle.tdb_answer.specs.Commands.Merge.{MergeEnds}
+use Rattle.tdb_answer.specs.Commands.Moving.{MoveSo}
 use Rattle.tdb_cmdline.specs.declared.lines.create.NewFile.{NewFile}
 use Rattle.tdb_answer.specs.Commands.Restore.{ReadSo}
 use Rattle.tdb_answer.specs.Commands.Session.{ServesSo}
@@ -34,6 +35,7 @@ reads_input (Verify more suffix) = false
 reads_input (Convert new made prefix) = false
 reads_input (Mend new) = false
 reads_input (Merge into prefix limit) = false
+reads_input (Move key into limit) = false
 reads_input (Turns options) = true
 reads_input (Session limit) = true
 reads_input (Generate commands seed) = false
@@ -132,6 +134,14 @@ pub record EndsByMerge (task : Task) (name : List ℕ) (held : List ℕ → Opti
   pub there : held name ≡ Some was
   pub ends : MergeEnds limit (seen was) into (held into) e
 
+-- the task moves a key of the file that is at its name into another one, and ends so by what is held at both names
+pub record EndsByMove (task : Task) (name : List ℕ) (held : List ℕ → Option History) (e : Ending) : Type 0 where
+  pub key : List ℕ
+  pub into : List ℕ
+  pub limit : ℕ
+  pub moves : task ≡ Move key into limit
+  pub ends : MoveSo limit key name into held e
+
 -- why a task on the file of a name ends so, by what is held at all names
 abbrev pub AskEnds : Input → Task → List ℕ → (List ℕ → Option History) → ℕ → ℕ → Ending → Type 0
-AskEnds input task name held before after e = AskCause input task name (held name) before after e ⊎ EndsByFiles task name held e ⊎ EndsByCounts task name held e ⊎ EndsByCommands task (held name) e ⊎ EndsByPairs task (held name) e ⊎ EndsByConversion task name held e ⊎ EndsByMending task name held e ⊎ EndsByMerge task name held e
+AskEnds input task name held before after e = AskCause input task name (held name) before after e ⊎ EndsByFiles task name held e ⊎ EndsByCounts task name held e ⊎ EndsByCommands task (held name) e ⊎ EndsByPairs task (held name) e ⊎ EndsByConversion task name held e ⊎ EndsByMending task name held e ⊎ EndsByMerge task name held e ⊎ EndsByMove task name held e

@@ -9,7 +9,7 @@ use Rattle.tdb_space.specs.Opening.{Opens}
 use Rattle.tdb_cmdline.specs.declared.act.Act.{Act}
 use Rattle.tdb_cmdline.specs.declared.look.Look.{Look}
 use Rattle.tdb_cmdline.specs.declared.ask.Task.{Task}
-use Rattle.tdb_cmdline.specs.declared.ask.Task.TheVariants.{Create, On, Read, Rescue, Print, Repack, Restore, Backup, Verify, Convert, Merge, Mend, Turns, Session, Generate}
+use Rattle.tdb_cmdline.specs.declared.ask.Task.TheVariants.{Create, On, Read, Rescue, Print, Repack, Restore, Backup, Verify, Convert, Merge, Mend, Move, Turns, Session, Generate}
 use Rattle.tdb_cmdline.specs.declared.lines.create.NewFile.{NewFile}
 use Rattle.tdb_answer.specs.declared.commands.create.Creation.TheVariants.{Made, Device}
 use Rattle.tdb_answer.specs.declared.ending.Ending.{Ending}
@@ -29,6 +29,7 @@ use Rattle.tdb_answer.specs.Commands.Convert.{ConvertEnds, WasConverted}
 use Rattle.tdb_answer.specs.Commands.Mend.{MendEnds, WasMended, StaysSynced}
 use Rattle.tdb_answer.specs.Damaged.{CanMend}
 use Rattle.tdb_answer.specs.Commands.Merge.{MergeEnds, MergeLeaves, MergedOn}
+use Rattle.tdb_answer.specs.Commands.Moving.{MoveLeaves, MoveSo, MovedOn, WasOpened}
 use Rattle.tdb_open.specs.Creating.{new_length}
 use Rattle.tdb_answer.specs.Commands.Create.{LeftEmpty, CreateLeaves}
 use Rattle.tdb_answer.specs.Commands.Restore.{ReadSo}
@@ -81,8 +82,9 @@ run_by words old now before after input output status = record {
 -- name, and its input says so; or a backup or a verification was, and its files say so; or turns were, and their script
 -- and their file say so; or a session was, and its lines and its file say so; or generated commands were, no file was
 -- at the name, and it is how they were done; or a file was to be written anew, or another one to be made of its pairs
--- or of what can be read of it, or its pairs to be stored into another one, and it is what became of these; or it is
--- asked for something and a call failed, or a log did; or memory was wanting.
+-- or of what can be read of it, or its pairs to be stored into another one, and it is what became of these; or a key of
+-- it was to be moved into another one, and both files say so; or it is asked for something and a call failed, or a log
+-- did; or memory was wanting.
 pub data MayEnd (ask : Option Ask) (held : List ℕ → Option History) (input : Input) (before after : ℕ) : Ending → Type 0 where
   is_due : (e : Ending) → Due ask held e → MayEnd ask held input before after e
   is_read : (e : Ending) (limit : ℕ) (name : List ℕ) → ask ≡ Some (record { file = name; task = Restore limit }) → held name ≡ None → ReadSo input limit e → MayEnd ask held input before after e
@@ -95,6 +97,7 @@ pub data MayEnd (ask : Option Ask) (held : List ℕ → Option History) (input :
   is_converted : (e : Ending) (made : NewFile) (prefix new name : List ℕ) (h : History) → ask ≡ Some (record { file = name; task = Convert new made prefix }) → held name ≡ Some h → ConvertEnds made prefix (seen h) new (held new) e → MayEnd ask held input before after e
   is_mended : (e : Ending) (new name : List ℕ) (h : History) → ask ≡ Some (record { file = name; task = Mend new }) → held name ≡ Some h → MendEnds (seen h) new (held new) e → MayEnd ask held input before after e
   is_merged : (e : Ending) (into prefix name : List ℕ) (limit : ℕ) (h : History) → ask ≡ Some (record { file = name; task = Merge into prefix limit }) → held name ≡ Some h → MergeEnds limit (seen h) into (held into) e → MayEnd ask held input before after e
+  is_moved : (e : Ending) (key into name : List ℕ) (limit : ℕ) → ask ≡ Some (record { file = name; task = Move key into limit }) → MoveSo limit key name into held e → MayEnd ask held input before after e
   call_failed : (a : Ask) → ask ≡ Some a → Rose before after → MayEnd ask held input before after DeviceFault
   memory_wanting : MayEnd ask held input before after NoMemory
   log_failed : (a : Ask) → ask ≡ Some a → MayEnd ask held input before after LogFault
@@ -171,17 +174,18 @@ pub record RefusesExactly (run : Run) : Type 0 where
   pub mend_exact : (new name : List ℕ) (h : History) → Mends run new name h → (CanMend (seen h) → ⊥) → length (seen h) ≤ LONGEST_FILE → (run.status ≡ 3) ⊎ TellsFault run.status
 
 -- a status after which every file is as before or undone, whatever the words ask for, but for copies and restored
--- files, and for turns and sessions that ended in their midst (`EndsMidway`): it says neither that it was done, nor
+-- files, and for commands of openers that ended in their midst (`EndsMidway`): it says neither that it was done, nor
 -- that a call of the files or of the output failed, nor that a log did
 abbrev pub KeepsAll : ℕ → Type 0
 KeepsAll status = (status ≢ 0) × (status ≢ 4) × (status ≢ 8) × (status ≢ 10)
 
--- a task may end with this status when some of its plays were taken: memory may be wanting, and a line of a session
--- none; or when an empty file was made in place of one that would be too long
+-- a task may end with this status when some of its plays were taken: memory may be wanting, or room, a line of a session
+-- may be none, and a key that is to be moved not there; or when an empty file was made in place of one that would be too long
 abbrev pub EndsMidway : Task → ℕ → Type 0
 EndsMidway (Turns options) status = status ≡ 5
 EndsMidway (Session limit) status = (status ≡ 5) ⊎ (status ≡ 7)
 EndsMidway (Merge into prefix limit) status = (status ≡ 5) ⊎ (status ≡ 6)
+EndsMidway (Move key into limit) status = (status ≡ 1) ⊎ (status ≡ 5) ⊎ (status ≡ 6)
 EndsMidway (Create file) status = file.limit < new_length file.form
 EndsMidway task status = ⊥
 
@@ -314,6 +318,28 @@ pub record MergeRun (limit : ℕ) (prefix file into : List ℕ) (held old : Opti
   pub left : MergeLeaves limit prefix file into held old ending now
   pub done : status ≡ 0 → WasMerged limit prefix held old now
 
+-- A key of one file was moved into another, and a stop from then on leaves of each only what opens to that.
+pub record WasMoved (limit : ℕ) (key : List ℕ) (held now_held old now : Option History) : Type 0 where
+  pub was : History
+  pub there : held ≡ Some was
+  pub from : History
+  pub opened : WasOpened limit was from
+  pub now_from : History
+  pub stands : now_held ≡ Some now_from
+  pub before : History
+  pub stood : old ≡ Some before
+  pub after : History
+  pub now_stands : now ≡ Some after
+  pub moved : MovedOn limit key from now_from before after (Ok tt)
+
+-- What a run leaves at the names of a file whose key is to be moved into another one, and of that, by the ending of its
+-- command, whose status it has, or 5 where there was no memory for its line, or 8 where the output failed.
+pub record MoveRun (limit : ℕ) (key file into : List ℕ) (held now_held old now : Option History) (status : ℕ) : Type 0 where
+  pub ending : Ending
+  pub exits : (status ≡ status_of ending) ⊎ (status ≡ 5) ⊎ (status ≡ 8)
+  pub left : MoveLeaves limit key file into held now_held old now ending
+  pub done : status ≡ 0 → WasMoved limit key held now_held old now
+
 -- What a run leaves at the name of a file on which generated commands are to be done. Where the status is neither 0 nor
 -- 4 no file is left that wasn't there, unless the output failed, behind them or behind a failed call.
 pub record GeneratingRun (commands seed : ℕ) (output : Output) (old : Option History) (before after status : ℕ) (now : Option History) : Type 0 where
@@ -361,6 +387,8 @@ pub record LeavesFiles (run : Run) (logs later : List Logged) : Type 0 where
       → StaysSynced (run.old name) (run.now name) × MendRun (run.old name) (run.old new) run.faults_before run.faults_after run.status (run.now new)
   pub merged : (into prefix name : List ℕ) (limit : ℕ) → run.ask ≡ Some (record { file = name; task = Merge into prefix limit })
       → (run.now name ≡ run.old name) × MergeRun limit prefix name into (run.old name) (run.old into) run.status (run.now into)
+  pub moved : (key into name : List ℕ) (limit : ℕ) → run.ask ≡ Some (record { file = name; task = Move key into limit })
+      → MoveRun limit key name into (run.old name) (run.now name) (run.old into) (run.now into) run.status
   pub turned : (options : Options) (name : List ℕ) (old : History) → run.ask ≡ Some (record { file = name; task = Turns options }) → run.old name ≡ Some old
       → (h : History) × (run.now name ≡ Some h) × TurnsRun options run.input run.output old run.faults_before run.faults_after run.status h logs later
   pub unturned : (options : Options) (name : List ℕ) → run.ask ≡ Some (record { file = name; task = Turns options }) → run.old name ≡ None → run.now name ≡ None

@@ -27,6 +27,7 @@ use crate::commands::create::create_file;
 use crate::commands::generate::generate_file;
 use crate::commands::mend::mend;
 use crate::commands::merge::merge_file;
+use crate::commands::moving::move_file;
 use crate::commands::print::print_on_file;
 use crate::commands::repack::repack;
 use crate::commands::rescue::rescue_on_file;
@@ -117,6 +118,15 @@ pub fn answer_ask<F: Files, S: Source, K: Sink, L: Logs>(
             name,
             into.as_str(),
             prefix.as_slice(),
+            *limit,
+            files,
+            logs,
+        )),
+        Task::Move { key, into, limit } => Ok(move_file(
+            alloc,
+            name,
+            into.as_str(),
+            key.as_slice(),
             *limit,
             files,
             logs,

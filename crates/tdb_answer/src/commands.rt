@@ -12,6 +12,7 @@ pub(crate) mod generate;
 pub(crate) mod insert;
 pub(crate) mod mend;
 pub(crate) mod merge;
+pub(crate) mod moving;
 pub(crate) mod print;
 pub(crate) mod quit;
 pub(crate) mod repack;

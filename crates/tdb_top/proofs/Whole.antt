@@ -5,7 +5,7 @@ use Rattle.std.proofs.lemmas.Bool.{false≢true}
 use Rattle.std.proofs.lemmas.List.{append-nil}
 use Rattle.tdb_disk.specs.History.{History}
 use Rattle.tdb_cmdline.specs.declared.ask.Task.{Task}
-use Rattle.tdb_cmdline.specs.declared.ask.Task.TheVariants.{Create, On, Read, Rescue, Print, Repack, Restore, Backup, Verify, Convert, Merge, Mend, Turns, Session, Generate}
+use Rattle.tdb_cmdline.specs.declared.ask.Task.TheVariants.{Create, On, Read, Rescue, Print, Repack, Restore, Backup, Verify, Convert, Merge, Mend, Move, Turns, Session, Generate}
 use Rattle.tdb_answer.specs.declared.ending.Ending.{Ending}
 use Rattle.tdb_answer.specs.declared.ending.Ending.TheVariants.{Replied, Refused}
 use Rattle.tdb_answer.specs.declared.ending.Reply.TheVariants.{Played}
@@ -19,7 +19,7 @@ use Rattle.tdb_answer.specs.Input.{Input}
 use Rattle.tdb_answer.specs.Looks.{ending_of}
 use Rattle.tdb_answer.specs.Output.{output_by}
 use Rattle.tdb_answer.specs.Printed.{Finishes}
-use Rattle.tdb_answer.specs.Run.{MayEnd, is_due, is_read, is_copied, is_verified, is_played, is_served, is_generated, is_repacked, is_converted, is_merged, is_mended, call_failed, memory_wanting, log_failed}
+use Rattle.tdb_answer.specs.Run.{MayEnd, is_due, is_read, is_copied, is_verified, is_played, is_served, is_generated, is_repacked, is_converted, is_merged, is_mended, is_moved, call_failed, memory_wanting, log_failed}
 use Rattle.tdb_answer.proofs.Held.{same_held}
 use Rattle.tdb_answer.proofs.Runs.{refusal_status}
 
@@ -33,6 +33,7 @@ reads_turns (Repack limit) = false
 reads_turns (Convert new made prefix) = false
 reads_turns (Mend new) = false
 reads_turns (Merge into prefix limit) = false
+reads_turns (Move key into limit) = false
 reads_turns (Create form) = false
 reads_turns (Restore limit) = false
 reads_turns (Backup more suffix) = false
@@ -69,6 +70,7 @@ ended_zero ask options name held input before after _ asks (is_repacked e limit 
 ended_zero ask options name held input before after _ asks (is_converted e made prefix new other h converts there ends) zero = absurd (false≢true (ap is_turns (sym converts ∙ asks)))
 ended_zero ask options name held input before after _ asks (is_mended e new other h mends there ends) zero = absurd (false≢true (ap is_turns (sym mends ∙ asks)))
 ended_zero ask options name held input before after _ asks (is_merged e into prefix other limit h merges there ends) zero = absurd (false≢true (ap is_turns (sym merges ∙ asks)))
+ended_zero ask options name held input before after _ asks (is_moved e key into other limit moves so) zero = absurd (false≢true (ap is_turns (sym moves ∙ asks)))
 ended_zero ask options name held input before after _ asks (call_failed a is rose) zero = absurd (omega (arith, zero))
 ended_zero ask options name held input before after _ asks memory_wanting zero = absurd (omega (arith, zero))
 ended_zero ask options name held input before after _ asks (log_failed a is) zero = absurd (omega (arith, zero))

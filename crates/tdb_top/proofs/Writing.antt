@@ -7,7 +7,7 @@ use Rattle.std.proofs.Math.Seq.{take-append-add, take-append_seam}
 use Rattle.tdb_disk.specs.Count.{Rose, HasCause}
 use Rattle.tdb_disk.specs.History.{History}
 use Rattle.tdb_cmdline.specs.declared.ask.Task.{Task}
-use Rattle.tdb_cmdline.specs.declared.ask.Task.TheVariants.{Create, On, Read, Rescue, Print, Repack, Restore, Backup, Verify, Convert, Merge, Mend, Turns, Session, Generate}
+use Rattle.tdb_cmdline.specs.declared.ask.Task.TheVariants.{Create, On, Read, Rescue, Print, Repack, Restore, Backup, Verify, Convert, Merge, Mend, Move, Turns, Session, Generate}
 use Rattle.tdb_answer.specs.declared.ending.Ending.{Ending}
 use Rattle.tdb_answer.specs.declared.ending.Ending.TheVariants.{Replied, Refused, Missing, There, Usage, DeviceFault, InputFault, Malformed, NoMemory, LogFault}
 use Rattle.tdb_answer.specs.declared.ending.Unprinted.{Unprinted}
@@ -124,6 +124,7 @@ task_wanting (Repack limit) name held written t takes text = text
 task_wanting (Convert new made prefix) name held written t takes text = stands_wanting converted_line written t takes text
 task_wanting (Mend new) name held written t takes text = mend_wanting (held name) written t takes text
 task_wanting (Merge into prefix limit) name held written t takes text = text
+task_wanting (Move key into limit) name held written t takes text = text
 
 text_wanting : (ask : Option Ask) (held : List ℕ → Option History) (written : List ℕ) (t : Ending) → TakesMemory t → TextBefore ask held t written → TextBefore ask held NoMemory written
 text_wanting None held written t takes text = text
@@ -171,6 +172,7 @@ task_nothing (Repack limit) name held = refl
 task_nothing (Convert new made prefix) name held = (0, refl)
 task_nothing (Mend new) name held = mend_nothing (held name)
 task_nothing (Merge into prefix limit) name held = refl
+task_nothing (Move key into limit) name held = refl
 
 pub nothing_before : (ask : Option Ask) (held : List ℕ → Option History) → TextBefore ask held NoMemory []
 nothing_before None held = refl
@@ -201,6 +203,7 @@ task_heard (Repack limit) files output told = told
 task_heard (Convert new made prefix) files output told = told
 task_heard (Mend new) files output told = and_left output files told
 task_heard (Merge into prefix limit) files output told = told
+task_heard (Move key into limit) files output told = told
 task_heard (Read (Value key)) files output told = told
 task_heard (Read Dump) files output told = and_left output files told
 

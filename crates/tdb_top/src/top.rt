@@ -85,6 +85,7 @@ fn finish<K: Sink>(alloc: Global, answered: &Result<Ending, Unprinted>, output: 
 /// | 0 | the value of the key is shown | `data(N) = "TEXT"` |
 /// | 0 | the key is added, stored or deleted, all keys are taken out, or the file is made, or written anew | `ok` |
 /// | 0 | a new file is made of the pairs of another one, or they are stored into one | `ok` |
+/// | 0 | a key is moved into another file | `ok` |
 /// | 0 | a new file is made of what can be read of one, of which `N` bytes were changed for that | `mended N` |
 /// | 0 | the file is accepted, and has `N` keys | `number N` |
 /// | 0 | all pairs are printed, or all keys | their dump text, a line for each key |
@@ -149,6 +150,10 @@ fn finish<K: Sink>(alloc: Global, answered: &Result<Ending, Unprinted>, output: 
 ///
 /// The command `convert --into FILE NEW` opens FILE so too and NEW as a session does, and stores the pairs into NEW in
 /// one transaction. It holds one pair, and the pages of NEW that the transaction changes, up to its commit.
+///
+/// The command `tool FILE move KEY FILE2` opens FILE and then FILE2 as a session does, stores the value of KEY into
+/// FILE2 and takes it out of FILE, each in a transaction of its own, and commits FILE2 first. It holds the pages of both
+/// that these change, up to the commits.
 ///
 /// The command `restore FILE` makes a file as `create` does, reads the input in pieces of 64 KiB, adds each pair
 /// without looking its key up, and syncs: time is linear in the text and in the file. It holds all keys, so as to

@@ -14,6 +14,7 @@ use Rattle.tdb_answer.specs.Commands.Repack.{RepackLeaves}
 use Rattle.tdb_answer.specs.Commands.Convert.{ConvertLeaves, converted_line}
 use Rattle.tdb_answer.specs.Commands.Mend.{MendLeaves, MendText, StaysSynced}
 use Rattle.tdb_answer.specs.Commands.Merge.{MergeLeaves}
+use Rattle.tdb_answer.specs.Commands.Moving.{MoveLeaves}
 use Rattle.tdb_cmdline.specs.declared.ask.Task.{Task}
 use Rattle.tdb_cmdline.specs.declared.ask.Task.TheVariants.{Turns, Verify, Convert, Mend}
 use Rattle.tdb_answer.specs.declared.ending.Ending.TheVariants.{Replied}
@@ -22,7 +23,7 @@ use Rattle.tdb_answer.specs.Commands.Generate.{GenHeard}
 use Rattle.tdb_answer.specs.Commands.Verify.{VerifyText, VerifyCause}
 use Rattle.tdb_answer.specs.Looks.{ending_of, Began, StandsBefore}
 use Rattle.tdb_answer.specs.Printed.{TaskText, task_tells}
-use Rattle.tdb_answer.specs.Heard.{TaskHeard, VerifyHeard, ConvertHeard, MergeHeard}
+use Rattle.tdb_answer.specs.Heard.{TaskHeard, VerifyHeard, ConvertHeard, MergeHeard, MoveHeard}
 use Rattle.tdb_answer.specs.Stops.{StopsScripted}
 use Rattle.tdb_answer.proofs.Looking.{began_as}
 use Rattle.tdb_answer.proofs.Acting.{made_cause, made_left, backup_ends, verify_ends, gen_ends}
@@ -31,6 +32,7 @@ use Rattle.tdb_answer.proofs.Repacking.{repack_ends}
 use Rattle.tdb_answer.proofs.Converting.{convert_ends}
 use Rattle.tdb_answer.proofs.Mending.{mend_ends}
 use Rattle.tdb_answer.proofs.Merging.{merge_ends}
+use Rattle.tdb_answer.proofs.Moving.{move_ends}
 use Rattle.tdb_answer.proofs.answering.answer_ask.Goals as goal
 
 -- why a file was made, or wasn't
@@ -265,6 +267,39 @@ returns-in-Merge-clause-others g c =
     subst (λ task. SameElse task (string_bytes c.args.ask.now.file) held given) (sym c.in-Merge.is)
     (λ other apart. c.merge_file.ensures.others other (λ is. apart (inl (is ∙ c.as_str-name.ensures.value))) (λ is. apart (inr (is ∙ c.as_str-in-Merge.ensures))))
 
+-- and the file into which a key is moved has another one
+pub move_file-requires-clause-differ : goal.move_file-requires-clause-differ
+move_file-requires-clause-differ g c is =
+    let fits = rw c.in-Move.is at c.requires.fits in
+    fits.0 (sym c.as_str-in-Move.ensures ∙ is ∙ c.as_str-name.ensures.value)
+
+-- why the key was moved, or wasn't
+pub returns-in-Move-clause-cause : goal.returns-in-Move-clause-cause
+returns-in-Move-clause-cause g c told =
+    let held = g.F.Files.held c.args.files.now in
+    let given = g.F.Files.held c.move_file.new.files in
+    let e = c.move_file.result in
+    move_ends (input_by g.S.Source.tells (g.S.Source.left c.args.input.now) (g.S.Source.faults c.args.input.now) (g.S.Source.faults c.args.input.now)) c.args.ask.now.task c.in-Move.key c.in-Move.into (string_bytes c.args.ask.now.file) c.in-Move.limit held
+    (g.F.Files.faults c.args.files.now) (g.F.Files.faults c.move_file.new.files) c.in-Move.is g.F.D.Disk.tells e (given (string_bytes c.args.ask.now.file)) (given c.in-Move.into) told
+    (subst (λ (q : List ℕ × (List ℕ × List ℕ)). MoveLeaves c.in-Move.limit q.1.1 q.0 q.1.0 (held q.0) (given q.0) (held q.1.0) (given q.1.0) e) (λ j. (c.as_str-name.ensures.value j, (c.as_str-in-Move.ensures j, c.as_slice-in-Move.ensures j))) (c.move_file.ensures.left told))
+    c.move_file.ensures.counted
+
+-- and what is left at the names of both
+pub returns-in-Move-clause-left : goal.returns-in-Move-clause-left
+returns-in-Move-clause-left g c told =
+    let held = g.F.Files.held c.args.files.now in
+    let given = g.F.Files.held c.move_file.new.files in
+    let e = c.move_file.result in
+    subst (λ task. TaskLeaves (input_by g.S.Source.tells (g.S.Source.left c.args.input.now) (g.S.Source.faults c.args.input.now) (g.S.Source.faults c.args.input.now)) task (string_bytes c.args.ask.now.file) held e given) (sym c.in-Move.is)
+    (subst (λ (q : List ℕ × (List ℕ × List ℕ)). MoveLeaves c.in-Move.limit q.1.1 q.0 q.1.0 (held q.0) (given q.0) (held q.1.0) (given q.1.0) e) (λ j. (c.as_str-name.ensures.value j, (c.as_str-in-Move.ensures j, c.as_slice-in-Move.ensures j))) (c.move_file.ensures.left told))
+
+pub returns-in-Move-clause-others : goal.returns-in-Move-clause-others
+returns-in-Move-clause-others g c =
+    let held = g.F.Files.held c.args.files.now in
+    let given = g.F.Files.held c.move_file.new.files in
+    subst (λ task. SameElse task (string_bytes c.args.ask.now.file) held given) (sym c.in-Move.is)
+    (λ other apart. c.move_file.ensures.others other (λ is. apart (inl (is ∙ c.as_str-name.ensures.value))) (λ is. apart (inr (is ∙ c.as_str-in-Move.ensures))))
+
 -- why generated commands ended so
 pub returns-in-Generate-clause-cause : goal.returns-in-Generate-clause-cause
 returns-in-Generate-clause-cause g c told =
@@ -340,6 +375,17 @@ returns-in-Merge-clause-told g c told =
     let later = g.L.Logs.logs c.merge_file.new.logs in
     subst (λ t. TaskHeard t (string_bytes c.args.ask.now.file) held now e logs later) (sym c.in-Merge.is)
     (subst (λ n. MergeHeard c.in-Merge.limit (held n) e logs later) c.as_str-name.ensures.value (c.merge_file.ensures.heard told))
+
+-- and of one whose key was to be moved into another one
+pub returns-in-Move-clause-told : goal.returns-in-Move-clause-told
+returns-in-Move-clause-told g c told =
+    let held = g.F.Files.held c.args.files.now in
+    let now = g.F.Files.held c.move_file.new.files in
+    let e = c.move_file.result in
+    let logs = g.L.Logs.logs c.args.logs.now in
+    let later = g.L.Logs.logs c.move_file.new.logs in
+    subst (λ t. TaskHeard t (string_bytes c.args.ask.now.file) held now e logs later) (sym c.in-Move.is)
+    (subst (λ n. MoveHeard c.in-Move.limit (held n) e logs later) c.as_str-name.ensures.value (c.move_file.ensures.heard told))
 
 -- and of generated commands
 pub returns-in-Generate-clause-told : goal.returns-in-Generate-clause-told
