@@ -2,8 +2,8 @@
 
 use crate::tables::first_failure;
 use crate::{
-    backup, changes, create, generate, inserts, limits, lines, logs, long, mends, merges, options,
-    printing, rescues, rewrites, sessions, summaries, turns, undo, verify,
+    backup, changes, create, generate, inserts, limits, lines, logs, long, mends, merges, moves,
+    options, printing, rescues, rewrites, sessions, summaries, turns, undo, verify,
 };
 
 // In parts: a list of all tables is more than the prover computes in one step.
@@ -30,6 +30,7 @@ fn lines_that_copy_and_look(rt: HostRuntime) {
     for (file, tables) in [
         ("backup", backup::TABLES.as_slice()),
         ("merges", merges::TABLES.as_slice()),
+        ("moves", moves::TABLES.as_slice()),
         ("rescues", rescues::TABLES.as_slice()),
         ("rewrites", rewrites::TABLES.as_slice()),
         ("summaries", summaries::TABLES.as_slice()),

@@ -28,6 +28,8 @@ mod mends;
 #[cfg(test)]
 mod merges;
 #[cfg(test)]
+mod moves;
+#[cfg(test)]
 mod options;
 #[cfg(test)]
 mod printing;
