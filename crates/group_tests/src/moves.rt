@@ -1,6 +1,6 @@
 //! A key that is moved from one file to another, over disks that stop at each of their calls.
 
-ghost use Rattle.std.specs.Prelude.{◌≡◌, ◌+◌, ◌<◌, IfOk, IsTrue, length};
+ghost use Rattle.std.specs.Prelude.{◌≡◌, ◌+◌, ◌<◌, ◌≤◌, IfOk, IsTrue, length};
 ghost use Rattle.group_tests.specs.Begun.{IsBegun};
 
 use std::alloc::{AllocError, Global};
@@ -102,20 +102,20 @@ fn act(alloc: Global, group: &mut Group<Stopping>) -> Result<bool, AllocError>
     Ok(true)
 }
 
-/// Prepares the files and finishes them. Whether all was done.
+/// Prepares the files, one or two, and finishes them. Whether all was done.
 fn commit(alloc: Global, group: &mut Group<Stopping>, count: u32) -> bool
-    requires { IsBegun count group.old }
+    requires begun { IsBegun count group.old }
+    requires some { 1 ≤ count }
+    requires few { count ≤ 2 }
 {
     let mut none: Vec<Box<dyn Log>> = Vec::new(alloc);
-    if group.prepare(&mut none).is_err() {
+    let Ok(()) = group.prepare(&mut none) else {
         return false;
-    }
-    for _finished in 0..count {
-        if group.finish_next().is_err() {
-            return false;
-        }
-    }
-    true
+    };
+    let Ok(_) = group.finish_next() else {
+        return false;
+    };
+    count == 1 || group.finish_next().is_ok()
 }
 
 /// Ends a group, and gives the disks back, the last in front. A disk for which there is no memory is given up.
