@@ -37,13 +37,19 @@ COMMANDS = {
     "backup": (["backup", "f.tdb"], "", [], []),
     "backup -v": (["backup", "-v", "f.tdb"], "", [], []),
     "convert": (["convert", "f.tdb", "n.tdb"], "", [], []),
+    "convert --into": (["convert", "--into", "f.tdb", "f.tdb.bak"], "", [], []),
+    "convert --into it": (["convert", "--into", "f.tdb.bak", "f.tdb"], "", [b"mine"], []),
+    "mend": (["mend", "f.tdb"], "", [], []),
+    "mend to NEW": (["mend", "f.tdb", "n.tdb"], "", [], []),
+    "move": (["tool", "f.tdb", "move", "key0", "f.tdb.bak"], "", [], [b"key0"]),
+    "move into it": (["tool", "f.tdb.bak", "move", "mine", "f.tdb"], "", [b"mine"], []),
     "create": (["tool", "f.tdb", "create"], "", [], []),
     "restore": (["restore", "f.tdb"], DUMP, [], []),
     "gen": (["gen", "10", "1", "f.tdb"], "", [], []),
 }
 
 # The copy that a command makes.
-COPIES = {"backup": "f.tdb.bak", "convert": "n.tdb"}
+COPIES = {"backup": "f.tdb.bak", "convert": "n.tdb", "mend to NEW": "n.tdb"}
 
 # What is told on standard error, and the word for it in the table.
 TOLD = {
@@ -70,8 +76,14 @@ def beside(state, name, user):
     words, data, there, gone = COMMANDS[name]
     make().close()
     run("backup", "f.tdb")
-    os.chmod("f.tdb.bak", 0o666)
+    run("tool", "f.tdb.bak", "store", "mine", "1")
+    with open("f.tdb.bak", "rb") as copy:
+        backed_up = copy.read()
     stock = Stock(state)
+    # The process that clears the file has an empty folder.
+    with open("f.tdb.bak", "wb") as copy:
+        copy.write(backed_up)
+    os.chmod("f.tdb.bak", 0o666)
     ran = run(*words, data=data, user=user)
     stock.end()
     if is_done(name, ran):
