@@ -19,7 +19,7 @@ pub returns-in-Ok-clause-left : goal.returns-in-Ok-clause-left
 returns-in-Ok-clause-left g c told =
     let old = g.F.D.Disk.history c.args.disk in
     let O = c.in-Ok.ensures.opened in
-    from_opened c.in-Ok.from.history (was_opened c.args.limit _ old c.in-Ok.from.history _ c.options_within-options.ensures (O.opened told) (O.stops told)) (c.move_to_name.ensures.left told)
+    from_opened c.in-Ok.from.history (was_opened c.args.limit _ old c.in-Ok.from.history c.in-Ok.field-0-1 c.options_within-options.ensures (O.opened told) (O.stops told)) (c.move_to_name.ensures.left told)
 
 pub returns-in-Ok-clause-counted : goal.returns-in-Ok-clause-counted
 returns-in-Ok-clause-counted g c =
@@ -46,8 +46,9 @@ returns-in-Ok-clause-heard g c told =
     let img = seen (g.F.D.Disk.history c.args.disk) in
     let mid = g.L.Logs.logs c.load.new.logs in
     let O = c.in-Ok.ensures.opened in
-    heard_more _ mid (subst (λ i. Counted i _) (O.opened told).1.reads (c.in-Ok.ensures.loaded.checked told).counted)
-    (subst (λ o. TurnOpeningHeard o img (g.L.Logs.logs c.args.logs.now) mid (Ok _)) c.options_within-options.ensures (O.heard told)) tt
+    let o = c.in-Ok.field-0-1 in
+    heard_more o mid (subst (λ i. Counted i o.report) (O.opened told).1.reads (c.in-Ok.ensures.loaded.checked told).counted)
+    (subst (λ q. TurnOpeningHeard q img (g.L.Logs.logs c.args.logs.now) mid (Ok o)) c.options_within-options.ensures (O.heard told)) tt
 
 pub returns-in-Err-clause-heard : goal.returns-in-Err-clause-heard
 returns-in-Err-clause-heard g c told =
