@@ -1,12 +1,12 @@
 //! A key that is moved from one file to another, over disks that stop at each of their calls.
 
-ghost use Rattle.std.specs.Prelude.{◌≡◌, ◌+◌, ◌<◌, ◌≤◌, IfOk, IsTrue, length};
+ghost use Rattle.std.specs.Prelude.{◌≡◌, ◌+◌, ◌<◌, ◌≤◌, IfOk, IsTrue, OnOk, length};
 ghost use Rattle.group_tests.specs.Begun.{IsBegun};
 
 use std::alloc::{AllocError, Global};
 use tdb_commands::{Command, Options};
 use tdb_disk::{FuseDisk, MemDisk, Pick};
-use tdb_group::Group;
+use tdb_group::{Group, GroupStop};
 use tdb_locks::Reply;
 use tdb_log::Log;
 use tdb_steps::Flag;
@@ -22,7 +22,7 @@ const OPTIONS: Options = Options {
 };
 
 /// No disk has so many calls.
-const ALL_CALLS: u64 = 1_000_000;
+pub(crate) const ALL_CALLS: u64 = 1_000_000;
 
 /// The numbers of the files: the one that gets the key is finished first.
 const TO: u32 = 0;
@@ -30,10 +30,10 @@ const TO: u32 = 0;
 const FROM: u32 = 1;
 
 /// Disks that stop after some of their calls.
-type Stopping = FuseDisk<MemDisk>;
+pub(crate) type Stopping = FuseDisk<MemDisk>;
 
 /// A disk with a new file.
-fn new_file(alloc: Global) -> Result<MemDisk, AllocError> {
+pub(crate) fn new_file(alloc: Global) -> Result<MemDisk, AllocError> {
     let mut bytes = vec![in alloc; 0u8; 696]?;
     let front = header_bytes(131, Order::Little, HashKind::Old);
     if front.len() <= bytes.len() {
@@ -43,38 +43,38 @@ fn new_file(alloc: Global) -> Result<MemDisk, AllocError> {
 }
 
 /// The key.
-fn key(alloc: Global) -> Result<Bytes, AllocError>
+pub(crate) fn key(alloc: Global) -> Result<Bytes, AllocError>
     ensures { IfOk result (λ k. length k ≡ 1) }
 {
     Bytes::copy(alloc, b"a")
 }
 
 /// Its value.
-fn value(alloc: Global) -> Result<Bytes, AllocError>
+pub(crate) fn value(alloc: Global) -> Result<Bytes, AllocError>
     ensures { IfOk result (λ v. length v ≡ 1) }
 {
     Bytes::copy(alloc, b"1")
 }
 
-/// Adds the file on a disk, which passes so many calls. Whether it was added.
-fn add(alloc: Global, group: &mut Group<Stopping>, disk: MemDisk, passes: u64) -> bool
+/// Adds the file on a disk, which passes so many calls. Where it isn't added its disk, and why the group refused it;
+/// without a reason where it isn't opened.
+pub(crate) fn add(
+    alloc: Global,
+    group: &mut Group<Stopping>,
+    disk: MemDisk,
+    passes: u64,
+) -> Result<(), (MemDisk, Option<GroupStop>)>
     requires begun { IsBegun (length group.old.files) group.old }
     requires few { length group.old.files < 2 }
-    ensures { IsTrue result → IsBegun (length group.old.files + 1) group.new }
+    ensures { OnOk result (IsBegun (length group.old.files + 1) group.new) }
 {
     let mut none: Vec<Box<dyn Log>> = Vec::new(alloc);
     match World::load(alloc, FuseDisk::new(disk, passes), &OPTIONS, &mut none) {
         Ok((world, _)) => match group.add(world) {
-            Ok(_) => true,
-            Err((world, _)) => {
-                world.close().inner();
-                false
-            }
+            Ok(_) => Ok(()),
+            Err((world, stop)) => Err((world.close().inner(), Some(stop))),
         },
-        Err((disk, _)) => {
-            disk.inner();
-            false
-        }
+        Err((disk, _)) => Err((disk.inner(), None)),
     }
 }
 
@@ -119,7 +119,7 @@ fn commit(alloc: Global, group: &mut Group<Stopping>, count: u32) -> bool
 }
 
 /// Ends a group, and gives the disks back, the last in front. A disk for which there is no memory is given up.
-fn close_all(alloc: Global, group: Group<Stopping>) -> Vec<MemDisk> {
+pub(crate) fn close_all(alloc: Global, group: Group<Stopping>) -> Vec<MemDisk> {
     let mut disks = Vec::new(alloc);
     let mut worlds = group.end();
     while let Some(world) = worlds.pop() {
@@ -136,20 +136,26 @@ fn stored(alloc: Global, disk: MemDisk) -> Result<Option<MemDisk>, AllocError> {
         value: value(alloc)?,
     };
     let mut group = Group::new(alloc);
-    let done = add(alloc, &mut group, disk, ALL_CALLS)
+    let done = add(alloc, &mut group, disk, ALL_CALLS).is_ok()
         && group.apply(0, store).is_ok()
         && commit(alloc, &mut group, 1);
     let mut disks = close_all(alloc, group);
     Ok(if done { disks.pop() } else { None })
 }
 
-/// Whether the file on a disk has the key with its value.
-fn has_it(alloc: Global, disk: MemDisk) -> Result<bool, AllocError> {
+/// Whether the file on a disk has the key with its value. `None` where it isn't opened, or gives the key another value.
+pub(crate) fn has_it(alloc: Global, disk: MemDisk) -> Result<Option<bool>, AllocError> {
     let fetch = Command::Fetch { key: key(alloc)? };
     let expected = value(alloc)?;
     let mut group = Group::new(alloc);
-    let found = add(alloc, &mut group, disk, ALL_CALLS)
-        && matches!(&group.apply(0, fetch), Ok(Reply::Value(value)) if *value == expected);
+    let mut found = None;
+    if add(alloc, &mut group, disk, ALL_CALLS).is_ok() {
+        found = match &group.apply(0, fetch) {
+            Ok(Reply::Value(value)) if *value == expected => Some(true),
+            Ok(Reply::KeyMissing) => Some(false),
+            _ => None,
+        };
+    }
     close_all(alloc, group);
     Ok(found)
 }
@@ -169,8 +175,13 @@ fn moved(
     (from, from_passes): (MemDisk, u64),
 ) -> Option<AfterMove> {
     let mut group = Group::new(alloc);
-    let begun = add(alloc, &mut group, to, to_passes) && add(alloc, &mut group, from, from_passes);
-    let done = begun && matches!(&act(alloc, &mut group), Ok(true)) && commit(alloc, &mut group, 2);
+    let done = match add(alloc, &mut group, to, to_passes) {
+        Ok(()) => match add(alloc, &mut group, from, from_passes) {
+            Ok(()) => matches!(&act(alloc, &mut group), Ok(true)) && commit(alloc, &mut group, 2),
+            Err(_) => false,
+        },
+        Err(_) => false,
+    };
     let mut disks = close_all(alloc, group);
     Some(AfterMove {
         to: disks.pop()?,
@@ -182,9 +193,9 @@ fn moved(
 /// Whether each stop leaves the key in one of the files, and in the second alone where the move was done.
 fn keeps_it(alloc: Global, moved: &AfterMove) -> Result<bool, AllocError> {
     for one in [Pick::Synced, Pick::Read, Pick::Torn] {
-        let to = has_it(alloc, moved.to.after_stop(alloc, one)?)?;
+        let to = has_it(alloc, moved.to.after_stop(alloc, one)?)? == Some(true);
         for two in [Pick::Synced, Pick::Read, Pick::Torn] {
-            let from = has_it(alloc, moved.from.after_stop(alloc, two)?)?;
+            let from = has_it(alloc, moved.from.after_stop(alloc, two)?)? == Some(true);
             if !to && !from || moved.done && (!to || from) {
                 return Ok(false);
             }
@@ -193,8 +204,8 @@ fn keeps_it(alloc: Global, moved: &AfterMove) -> Result<bool, AllocError> {
     Ok(true)
 }
 
-/// After how many calls of the disk of the second file, or of the first, a stop loses the key: the least such number, or
-/// 200 where the move isn't done by as many.
+/// After how many calls of the disk of the second file, or of the first, a stop loses the key: the least such number,
+/// or 200 where the move isn't done by as many.
 fn losing_stop(alloc: Global, second: bool) -> Result<Option<u64>, AllocError> {
     for calls in 0..200 {
         let (to, from) = if second {
