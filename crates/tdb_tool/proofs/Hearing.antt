@@ -28,3 +28,12 @@ module _ (old mid new : List Logged) (front rest : List Line) where
 pub heard_or_refused : (old new : List Logged) (lines : List Line) (told : Result (Unit {0}) LogRefusal) → HeardBy old lines new (Ok told) → HeardOrRefused old lines new
 heard_or_refused old new lines (Ok unit) heard = inl heard
 heard_or_refused old new lines (Err refusal) heard = inr (refusal, heard)
+
+-- whatever broke off, all was heard or a log refused
+pub heard_or_not : (answer : Option SessionFault) (old new : List Logged) (lines : List Line) → HeardSo answer old lines new → HeardOrRefused old lines new
+heard_or_not None old new lines heard = inl heard
+heard_or_not (Some F.Input) old new lines heard = inl heard
+heard_or_not (Some F.Output) old new lines heard = heard
+heard_or_not (Some F.Device) old new lines heard = heard
+heard_or_not (Some F.Log) old new lines heard = inr (Unheard.Failed, heard)
+heard_or_not (Some F.Memory) old new lines heard = heard

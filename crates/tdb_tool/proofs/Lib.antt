@@ -3,6 +3,7 @@ pub mod LineLemmas
 pub mod Stops
 pub mod Hearing
 pub mod Coming
+pub mod HeldText
 pub mod PartLemmas
 pub mod Plays
 pub mod Moves

@@ -1,14 +1,16 @@
 -- Lists of pairs, move by move.
-use Rattle.std.proofs.Common.{◌≡◌, ℕ, zero, suc, ◌+◌, ◌-◌, ◌≤◌, Bool, true, false, List, [], ◌∷◌, ◌++◌, length, None, Some, Result, Ok, Err, refl, sym, ◌∙◌, ap, subst, inr, add-one, arith}
+use Rattle.std.proofs.Common.{◌≡◌, ℕ, zero, suc, ◌+◌, ◌-◌, ◌≤◌, Bool, true, false, List, [], ◌∷◌, ◌++◌, length, Option, None, Some, Result, Ok, Err, refl, sym, ◌∙◌, ap, subst, inr, add-one, arith}
 use Rattle.std.specs.Prelude.{IsTrue, ◌||◌}
 use Rattle.std.specs.List.{list_any}
-use Rattle.std.proofs.lemmas.List.{map-append}
+use Rattle.std.proofs.lemmas.List.{append_assoc, append-nil, map-append}
 use Rattle.std.proofs.lemmas.Grind.{flat_map-append}
 use Rattle.tdb_disk.specs.History.{seen}
+use Rattle.tdb_backup.specs.Dump.{WroteFront}
 use Rattle.tdb_dump.specs.declared.listing.Listing.{Listing}
 use Rattle.tdb_law.specs.Commands.Command.{OnWalk}
 use Rattle.tdb_law.specs.Plays.{Play as LawPlay, Gives}
 use Rattle.tdb_law.specs.World.{State}
+use Rattle.tdb_log.specs.Logs.{Logged}
 use Rattle.tdb_locks.specs.declared.turn.Reply.{Reply}
 use Rattle.tdb_locks.specs.declared.turn.Turn.{Turn}
 use Rattle.tdb_commands.specs.InLaw.{law_turn, law_line, law_lines, law_play}
@@ -21,13 +23,15 @@ use Rattle.tdb_tool.specs.declared.fault.SessionFault.{SessionFault}
 use Rattle.tdb_tool.specs.declared.fault.SessionFault.TheVariants as F
 use Rattle.tdb_tool.specs.Parts.{Listed, move, Going, AllDone, AllCame}
 use Rattle.tdb_tool.specs.Replies.{ends_with_pair, tells_pair, tell_pair, line_text, lines_text}
-use Rattle.tdb_world.specs.Courses.Scene.{Scene, IsStateAt}
-use Rattle.tdb_world.specs.OverFile.{FitsFile}
-use Rattle.tdb_tool.specs.Serving.{fault_of, Deed, Led, Ran, PlayDone, PlayBegun, Played}
-use Rattle.tdb_tool.proofs.Coming.{Follows, led_on, led_but_input}
+use Rattle.tdb_world.specs.Courses.Scene.{Scene, scene, IsStateAt}
+use Rattle.tdb_world.specs.OverFile.{OverFile, FitsFile}
+use Rattle.tdb_tool.specs.Serving.{fault_of, Deed, Led, Ran, PlayDone, PlayBegun, Played, HeldBehind, EndsPrinted}
+use Rattle.tdb_tool.proofs.Coming.{Follows, IsToo, led_nowhere, led_on, led_but_input}
+use Rattle.tdb_tool.proofs.HeldText.{led_moved, written_front, ended}
+use Rattle.tdb_tool.proofs.Telling.{nothing_behind}
 use Rattle.tdb_tool.proofs.WalkEnds.{move_at, Moved as LawMoved, first_moves, moves_fit}
 use Rattle.tdb_tool.proofs.Moves.{ends_pair, shows}
-use Rattle.tdb_tool.proofs.PartLemmas.{one_done, one_begun, going_course}
+use Rattle.tdb_tool.proofs.PartLemmas.{one_done, one_begun, all_came, going_course}
 use Rattle.tdb_tool.proofs.Sights.{sees_within}
 
 -- so many moves of a list, each of which gave a pair, with their text
@@ -75,15 +79,18 @@ module _ (disk_tells told : Bool) (listing : Listing) where
         (λ f old new lines text moved. going_course f (Listed listing) n old new lines moved.0) follows (list_breaks listing n) start mid now so_far (fault_of answer)
         (subst (λ m. Played disk_tells told mid now m (Some listing) answer) is p)
 
-    pub list_on : (pair : Bool) → pair ≡ true → Played disk_tells told mid now play (Some listing) (Ok pair) → SoFar (n + 1) start now
-    list_on pair gave p = subst (λ m. SoFar m start now) (sym (add-one n)) (behind (Ok pair) (Moved listing (suc n)) (subst (λ b. Follows (Moved listing n) (PlayDone (move n) (Some listing) (Ok b)) (Moved listing (suc n))) (sym gave) (one_more listing n)) p)
+    -- so far the moves came with the one more, however that ended
+    pub list_so_far : (answer : Result Bool SessionFault) → Played disk_tells told mid now play (Some listing) answer → Led disk_tells told Came Came start now (fault_of answer)
+    list_so_far answer p = behind answer Came (last_begun listing n answer) p
 
-    pub list_end : (pair : Bool) → pair ≡ false → Played disk_tells told mid now play (Some listing) (Ok pair) → Ran disk_tells told start now (Listed listing ∷ []) None
-    list_end pair gave_none p =
-        behind (Ok pair) (AllDone (Listed listing ∷ [])) (subst (λ b. Follows (Moved listing n) (PlayDone (move n) (Some listing) (Ok b)) (AllDone (Listed listing ∷ []))) (sym gave_none) (list_ends listing n)) p
+    pub list_on : Played disk_tells told mid now play (Some listing) (Ok true) → SoFar (n + 1) start now
+    list_on p = subst (λ m. SoFar m start now) (sym (add-one n)) (behind (Ok true) (Moved listing (suc n)) (one_more listing n) p)
+
+    pub list_end : Played disk_tells told mid now play (Some listing) (Ok false) → Ran disk_tells told start now (Listed listing ∷ []) None
+    list_end p = behind (Ok false) (AllDone (Listed listing ∷ [])) (list_ends listing n) p
 
     pub list_broke : (fault : SessionFault) → (fault ≡ F.Input → ⊥) → Played disk_tells told mid now play (Some listing) (Err fault) → Ran disk_tells told start now (Listed listing ∷ []) (Some fault)
-    list_broke fault other p = led_but_input disk_tells told Came (AllDone (Listed listing ∷ [])) Came start now fault other (behind (Err fault) Came (last_begun listing n (Err fault)) p)
+    list_broke fault other p = led_but_input disk_tells told Came (AllDone (Listed listing ∷ [])) Came start now fault other (list_so_far (Err fault) p)
 
 -- lines tell a pair where they do in the words of the law
 line_shows : (line : Line) → shows (law_line line) ≡ tells_pair line
@@ -173,3 +180,69 @@ module _ (disk_tells told : Bool) (listing : Listing) (n : ℕ) (start now : Sce
     runs = λ heard state is. absurd (too_many heard state is);
     rose = so_far.rose;
   }
+
+-- what was written at a moment is there
+abbrev pub Grew : Bool → Scene → List ℕ → Type 0
+Grew told start written = IsTrue told → (done : List ℕ) × (written ≡ start.written ++ done)
+
+-- nothing was written since
+pub grew_none : (told : Bool) (start : Scene) → Grew told start start.written
+grew_none told start out = ([], sym (append-nil start.written))
+
+-- The text of the moves so far was written, but for what is held of it.
+module _ (disk_tells told : Bool) (listing : Listing) where
+  all_came_of : IsToo (AllDone (Listed listing ∷ [])) (AllCame (Listed listing ∷ []))
+  all_came_of f old new lines text done = all_came f (Listed listing ∷ []) old new lines text done
+
+  -- no move was made, and nothing is held
+  pub held_none : (a : OverFile) (written held : List ℕ) (logs : List Logged) → a.spent ≡ false → held ≡ [] → SoFar disk_tells told listing 0 (scene a written logs) (scene a (written ++ held) logs)
+  held_none a written held logs unspent empty =
+      subst (λ w. SoFar disk_tells told listing 0 (scene a written logs) (scene a w logs)) (sym (nothing_behind written held empty))
+      (led_nowhere disk_tells told (Moved listing 0) (AllCame (Listed listing ∷ [])) (scene a written logs) (no_moves listing) unspent)
+
+  module _ (n : ℕ) (start : Scene) (a b : OverFile) (written held text now : List ℕ) (logs heard : List Logged) (so_far : SoFar disk_tells told listing n start (scene a (written ++ held) logs))
+      (grew : Grew told start written) (play : Play) (is : play ≡ move n) where
+    abbrev Made : Result Bool SessionFault → Type 0
+    Made answer = Played disk_tells told (scene a (written ++ held) logs) (scene b ((written ++ held) ++ text) heard) play (Some listing) answer
+
+    -- a pair more is held, or written
+    pub held_on : Made (Ok true) → (left : List ℕ) → (IsTrue told → HeldBehind written (held ++ text) now left) → SoFar disk_tells told listing (n + 1) start (scene b (now ++ left) heard)
+    held_on p left on =
+        led_moved disk_tells told (Moved listing (n + 1)) (AllCame (Listed listing ∷ [])) start b heard ((written ++ held) ++ text) (now ++ left) (λ out. same (on out)) None
+        (list_on disk_tells told listing n start (scene a (written ++ held) logs) (scene b ((written ++ held) ++ text) heard) so_far play is p)
+      where
+        same : HeldBehind written (held ++ text) now left → now ++ left ≡ (written ++ held) ++ text
+        same (front, wrote, cut) = ap (λ t. t ++ left) wrote ∙ append_assoc written front left ∙ ap (λ t. written ++ t) cut ∙ sym (append_assoc written held text)
+
+    pub grew_on : (left : List ℕ) → (IsTrue told → HeldBehind written (held ++ text) now left) → Grew told start now
+    grew_on left on out =
+        let g = grew out in
+        let h = on out in
+        (g.0 ++ h.0, h.1 ∙ ap (λ t. t ++ h.0) g.1 ∙ append_assoc start.written g.0 h.0)
+
+    -- the output failed at it
+    pub held_lost : Made (Ok true) → (IsTrue told → WroteFront written (held ++ text) now) → Ran disk_tells told start (scene b now heard) (Listed listing ∷ []) (Some F.Output)
+    held_lost p some =
+        written_front disk_tells told (AllCame (Listed listing ∷ [])) (AllCame (Listed listing ∷ [])) (λ f old new lines made came. came) start b heard written held text grew now (AllDone (Listed listing ∷ [])) some None refl
+        (list_so_far disk_tells told listing n start (scene a (written ++ held) logs) (scene b ((written ++ held) ++ text) heard) so_far play is (Ok true) p)
+
+    -- the list ends, or breaks off
+    pub end_printed : Made (Ok false) → (answer : Option SessionFault) → EndsPrinted told None written (held ++ text) now answer → Ran disk_tells told start (scene b now heard) (Listed listing ∷ []) answer
+    end_printed p answer ends =
+        ended disk_tells told (AllDone (Listed listing ∷ [])) (AllCame (Listed listing ∷ [])) all_came_of start b heard written held text grew now None answer ends
+        (list_end disk_tells told listing n start (scene a (written ++ held) logs) (scene b ((written ++ held) ++ text) heard) so_far play is p)
+
+    pub broke_printed : (fault : SessionFault) → (fault ≡ F.Input → ⊥) → Made (Err fault) → (answer : Option SessionFault) → EndsPrinted told (Some fault) written (held ++ text) now answer
+        → Ran disk_tells told start (scene b now heard) (Listed listing ∷ []) answer
+    broke_printed fault other p answer ends =
+        ended disk_tells told (AllDone (Listed listing ∷ [])) (AllCame (Listed listing ∷ [])) all_came_of start b heard written held text grew now (Some fault) answer ends
+        (list_broke disk_tells told listing n start (scene a (written ++ held) logs) (scene b ((written ++ held) ++ text) heard) so_far play is fault other p)
+
+  -- it is cut off
+  pub full_printed : (n : ℕ) (start : Scene) (a : OverFile) (written held text now : List ℕ) (logs : List Logged) → SoFar disk_tells told listing n start (scene a (written ++ held) logs) → MOST_MOVES ≤ n → FitsFile start.over
+      → (IsTrue disk_tells → length (seen start.over.history) ≡ start.over.size) → Grew told start written → text ≡ [] → (answer : Option SessionFault) → EndsPrinted told None written (held ++ text) now answer
+      → Ran disk_tells told start (scene a now logs) (Listed listing ∷ []) answer
+  full_printed n start a written held text now logs so_far many fits sized grew empty answer ends =
+      ended disk_tells told (AllDone (Listed listing ∷ [])) (AllCame (Listed listing ∷ [])) all_came_of start a logs written held text grew now None answer ends
+      (subst (λ w. Ran disk_tells told start (scene a w logs) (Listed listing ∷ []) None) (sym (nothing_behind (written ++ held) text empty))
+      (list_full disk_tells told listing n start (scene a (written ++ held) logs) so_far many fits sized))

@@ -5,15 +5,12 @@ use Rattle.std.proofs.lemmas.List.{append-nil}
 use Rattle.tdb_space.specs.Form.{Form}
 use Rattle.tdb_backup.specs.Dump.{WroteFront}
 use Rattle.tdb_dump.specs.declared.listing.Listing.{Listing}
-use Rattle.tdb_dump.specs.declared.writer.WriteRefusal.{WriteRefusal}
-use Rattle.tdb_dump.specs.declared.writer.WriteRefusal.TheVariants as Untold
 use Rattle.tdb_law.specs.Plays.{Gives}
 use Rattle.tdb_law.specs.World.{State}
 use Rattle.tdb_log.specs.Logs.{Logged}
 use Rattle.tdb_log.specs.declared.log.LogRefusal.{LogRefusal}
 use Rattle.tdb_log.specs.declared.log.LogRefusal.TheVariants as Unheard
 use Rattle.tdb_commands.specs.InLaw.{law_play, law_lines}
-use Rattle.tdb_commands.specs.declared.command.Command.{Command}
 use Rattle.tdb_commands.specs.declared.line.Line.{Line}
 use Rattle.tdb_commands.specs.declared.play.Play.{Play}
 use Rattle.tdb_openers.specs.Played.{PlaysLast}
@@ -27,15 +24,15 @@ use Rattle.tdb_world.specs.Courses.Hearing.{HeardBy}
 use Rattle.tdb_world.specs.Courses.Stops.{IsTransacted}
 use Rattle.tdb_tool.specs.declared.fault.SessionFault.{SessionFault}
 use Rattle.tdb_tool.specs.declared.fault.SessionFault.TheVariants as F
-use Rattle.tdb_tool.specs.declared.order.Order.{Order}
-use Rattle.tdb_tool.specs.Parts.{Silent, Told, doing, part_of, AllDone, AllCame}
+use Rattle.tdb_tool.specs.Parts.{Silent, Told, AllDone, AllCame}
 use Rattle.tdb_tool.specs.Replies.{lines_text, tell_pair}
 use Rattle.tdb_world.specs.Courses.Scene.{Scene, scene, IsStateAt}
-use Rattle.tdb_tool.specs.Serving.{of_run, of_write, of_log, fault_of, UnlessBroken, HeardSo, Deed, StopsBetween, DoneBetween, Led, Ran, PlayDone, PlayBegun, Played}
+use Rattle.tdb_tool.specs.Serving.{of_run, of_log, fault_of, UnlessBroken, HeardSo, Deed, StopsBetween, DoneBetween, Led, Ran, PlayDone, PlayBegun, Played, EndsPrinted}
 use Rattle.tdb_tool.proofs.Coming.{IsToo, led_as}
 use Rattle.tdb_tool.proofs.Hearing.{heard_or_refused}
-use Rattle.tdb_tool.proofs.PartLemmas.{one_done, one_begun}
-use Rattle.tdb_tool.proofs.Telling.{front_all}
+use Rattle.tdb_tool.proofs.PartLemmas.{one_done, one_begun, all_came}
+use Rattle.tdb_tool.proofs.HeldText.{ended}
+use Rattle.tdb_tool.proofs.Telling.{front_all, front_none, nothing_behind}
 
 -- one play of a part that is no list
 pub silent_done : (f : Form) (play : Play) (old new : State) (lines : List Line) → Gives f old (law_play play) (law_lines lines) new → AllDone (Silent play ∷ []) f old lines [] new
@@ -154,19 +151,9 @@ module _ (disk_tells told : Bool) (a b : OverFile) (first lines : List Line) (em
           = λ safe calm. (let S = stops_at tells state is now safe calm in record { stops = S.stops; safe = moved (IsSafe form b.history) S.safe }) in
           (r.0, r.1, (makes state r.0 r.2, stops, so))
 
-      -- a front of its text was written
-      untold : (IsTrue told → WroteFront written text now) → (refusal : WriteRefusal) → Led disk_tells told whole part Before (After now) (Some (of_write refusal))
-      untold front Untold.Failed = record {
-        header = taken.led.header;
-        options = taken.led.options;
-        unspent = spent;
-        rises = taken.led.rises;
-        quiet = taken.led.quiet;
-        runs = λ tells state is.
-            (let r = broke F.Output (λ A x. x) tells state is (heard_or_refused logs heard lines answer (taken.heard tells state lines is all_lines)) in (r.0, r.1, (lines, text, r.2, front)));
-        rose = λ tells state is. tt;
-      }
-      untold front Untold.Memory = record {
+      -- memory was wanting for its text, of which a front was written
+      untold : (IsTrue told → WroteFront written text now) → Led disk_tells told whole part Before (After now) (Some F.Memory)
+      untold front = record {
         header = taken.led.header;
         options = taken.led.options;
         unspent = spent;
@@ -205,8 +192,8 @@ module _ (disk_tells told : Bool) (a b : OverFile) (first lines : List Line) (em
       begun : (state new : State) → Gives form state (law_play play) (law_lines lines) new → PlayBegun play listing form state lines (lines_text listing lines) new
       begun state new gives = (inr gives, refl)
 
-      pub play_untold : (refusal : WriteRefusal) → (IsTrue told → WroteFront written (lines_text listing lines) now) → Played disk_tells told Before (After now) play listing (Err (of_write refusal))
-      play_untold refusal front = untold (PlayDone play listing (Err (of_write refusal))) (PlayBegun play listing) now (lines_text listing lines) begun front refusal
+      pub play_untold : now ≡ written → Played disk_tells told Before (After now) play listing (Err F.Memory)
+      play_untold none = untold (PlayDone play listing (Err F.Memory)) (PlayBegun play listing) now (lines_text listing lines) begun (λ out. front_none written (lines_text listing lines) now none)
 
       pub play_refused : (refusal : LogRefusal) → answer ≡ Err refusal → (IsTrue told → now ≡ written ++ lines_text listing lines) → Played disk_tells told Before (After now) play listing (Err (of_log refusal))
       play_refused refusal so all = refused (PlayDone play listing (Err (of_log refusal))) (PlayBegun play listing) now (lines_text listing lines) begun all refusal so
@@ -232,9 +219,16 @@ module _ (disk_tells told : Bool) (old new : Scene) where
   told_begun play f a b lines text (last, u) =
       subst (λ t. AllCame (Told play ∷ []) f a lines t b) (sym u) (one_begun f (Told play) a b lines (record { count = 0; mid = a; front = []; rest = lines; lines_cut = refl; going = (refl, refl); last = last }))
 
-  -- so is the play of an order that takes a command
-  pub play_ordered : (order : Order) (command : Command) (play : Play) → order ≡ Order.Take command → play ≡ doing command → (answer : Result Bool SessionFault) → Played disk_tells told old new play None answer → Ran disk_tells told old new (part_of order) (fault_of answer)
-  play_ordered order command play is this answer p =
-      subst (λ o. Ran disk_tells told old new (part_of o) (fault_of answer)) (sym is)
-      (subst (λ q. Ran disk_tells told old new (Told q ∷ []) (fault_of answer)) this
-      (led_as disk_tells told (PlayDone play None answer) (PlayBegun play None) (AllDone (Told play ∷ [])) (AllCame (Told play ∷ [])) (told_done play answer) (told_begun play) old new (fault_of answer) p))
+  told_ran : (play : Play) (answer : Result Bool SessionFault) → Played disk_tells told old new play None answer → Ran disk_tells told old new (Told play ∷ []) (fault_of answer)
+  told_ran play answer p =
+      led_as disk_tells told (PlayDone play None answer) (PlayBegun play None) (AllDone (Told play ∷ [])) (AllCame (Told play ∷ [])) (told_done play answer) (told_begun play) old new (fault_of answer) p
+
+-- and its reply is printed, where nothing else is held
+module _ (disk_tells told : Bool) (a b : OverFile) (written held text now : List ℕ) (logs heard : List Logged) (play : Play) where
+  pub told_printed : held ≡ [] → (taken : Result Bool SessionFault) → Played disk_tells told (scene a written logs) (scene b (written ++ text) heard) play None taken
+      → (answer : Option SessionFault) → EndsPrinted told (fault_of taken) written (held ++ text) now answer → Ran disk_tells told (scene a written logs) (scene b now heard) (Told play ∷ []) answer
+  told_printed empty taken p answer ends =
+      ended disk_tells told (AllDone (Told play ∷ [])) (AllCame (Told play ∷ [])) (λ f old new lines made done. all_came f (Told play ∷ []) old new lines made done) (scene a written logs) b heard written held text
+      (λ out. ([], sym (append-nil written))) now (fault_of taken) answer ends
+      (subst (λ w. Ran disk_tells told (scene a written logs) (scene b (w ++ text) heard) (Told play ∷ []) (fault_of taken)) (sym (nothing_behind written held empty))
+      (told_ran disk_tells told (scene a written logs) (scene b (written ++ text) heard) play taken p))

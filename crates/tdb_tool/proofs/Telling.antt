@@ -1,14 +1,8 @@
 -- The text of replies, written piece by piece.
-use Rattle.std.proofs.Common.{◌≡◌, ℕ, ◌+◌, ◌<◌, List, ◌∷◌, ◌++◌, length, length-append, take, drop, take-append-drop, slice_index_or, sym, ◌∙◌, ap, subst, arith}
-use Rattle.std.specs.Prelude.{Option}
-use Rattle.std.proofs.lemmas.List.{append_assoc, take_all, drop_more, take-append-le}
-use Rattle.std.proofs.lemmas.List.Concat.{flat_map-cons}
-use Rattle.std.proofs.lemmas.Grind.{flat_map-append}
+use Rattle.std.proofs.Common.{◌≡◌, ℕ, ◌+◌, ◌<◌, ◌≤◌, List, [], ◌++◌, length, length-append, take, append-nil, sym, ◌∙◌, ap, arith}
+use Rattle.std.proofs.lemmas.List.{append_assoc, append_cancel_left, length-take-le, take_all, take-take, take-append-le}
 use Rattle.std.proofs.Math.Seq.{take-append-add}
 use Rattle.tdb_backup.specs.Dump.{WroteFront}
-use Rattle.tdb_dump.specs.declared.listing.Listing.{Listing}
-use Rattle.tdb_commands.specs.declared.line.Line.{Line}
-use Rattle.tdb_tool.specs.Replies.{line_text, lines_text}
 
 -- a text that was written whole, and one behind another
 pub front_all : (before text now : List ℕ) → now ≡ before ++ text → WroteFront before text now
@@ -21,20 +15,30 @@ pub front_after : (before mid now one two : List ℕ) → mid ≡ before ++ one 
 front_after before mid now one two e w =
     (length one + w.0, omega (arith, w.1, length-append one two), w.2 ∙ ap (λ m. m ++ take w.0 two) e ∙ append_assoc before one (take w.0 two) ∙ ap (λ t. before ++ t) (sym (take-append-add one two w.0)))
 
-module _ (listing : Option Listing) where
-  -- the text of more lines
-  text_more : (lines more : List Line) → lines_text listing (lines ++ more) ≡ lines_text listing lines ++ lines_text listing more
-  text_more lines more = flat_map-append (line_text listing) lines more
+-- nothing was put behind a text
+pub nothing_behind : (before more : List ℕ) → more ≡ [] → before ++ more ≡ before
+nothing_behind before more none = ap (λ t. before ++ t) none ∙ append-nil before
 
-  text_at : (lines : List Line) (i : ℕ) (line : Line) → i < length lines → line ≡ slice_index_or lines i line → lines_text listing lines ≡ lines_text listing (take i lines) ++ (line_text listing line ++ lines_text listing (drop (i + 1) lines))
-  text_at lines i line inside is =
-      ap (lines_text listing) (sym (take-append-drop i lines)) ∙ text_more (take i lines) (drop i lines)
-      ∙ ap (λ ls. lines_text listing (take i lines) ++ lines_text listing ls) (drop_more lines i line inside ∙ ap (λ l. l ∷ drop (i + 1) lines) (sym is))
-      ∙ ap (λ t. lines_text listing (take i lines) ++ t) (flat_map-cons (line_text listing) line (drop (i + 1) lines))
+-- all of one, behind an empty one, stands behind another
+pub all_behind : (before empty text now : List ℕ) → empty ≡ [] → now ≡ empty ++ text → before ++ now ≡ before ++ text
+all_behind before empty text now none all = ap (λ t. before ++ t) (all ∙ ap (λ t. t ++ text) none)
 
-  -- a front of what is printed of a line, behind that of the lines before it
-  pub told_front : (before mid now : List ℕ) (lines : List Line) (i : ℕ) (line : Line) → i < length lines → line ≡ slice_index_or lines i line → mid ≡ before ++ lines_text listing (take i lines) → WroteFront mid (line_text listing line) now
-      → WroteFront before (lines_text listing lines) now
-  told_front before mid now lines i line inside is e w =
-      subst (λ t. WroteFront before t now) (sym (text_at lines i line inside is)) (front_after before mid now (lines_text listing (take i lines)) (line_text listing line ++ lines_text listing (drop (i + 1) lines)) e
-      (w.0, omega (arith, w.1, length-append (line_text listing line) (lines_text listing (drop (i + 1) lines))), w.2 ∙ ap (λ t. mid ++ t) (sym (take-append-le w.0 (line_text listing line) (lines_text listing (drop (i + 1) lines)) w.1))))
+-- or was written of one
+pub front_none : (before text now : List ℕ) → now ≡ before → WroteFront before text now
+front_none before text now same = (0, omega arith, same ∙ sym (append-nil before))
+
+-- a front of a text is one of more
+pub front_of_more : (before text more now : List ℕ) → WroteFront before text now → WroteFront before (text ++ more) now
+front_of_more before text more now w = (w.0, omega (arith, w.1, length-append text more), w.2 ∙ ap (λ t. before ++ t) (sym (take-append-le w.0 text more w.1)))
+
+-- A front of a text was written, but for what was held of it; of that a front is written.
+pub front_of_held : (before done written held text now : List ℕ) → written ≡ before ++ done → WroteFront before text (written ++ held) → WroteFront written held now → WroteFront before text now
+front_of_held before done written held text now e w v =
+    let all : done ++ held ≡ take w.0 text = append_cancel_left before (done ++ held) (take w.0 text) (sym (append_assoc before done held) ∙ ap (λ t. t ++ held) (sym e) ∙ w.2) in
+    let long : length done + length held ≡ w.0 = sym (length-append done held) ∙ ap length all ∙ length-take-le w.0 text w.1 in
+    let within : length done + v.0 ≤ w.0 = omega (arith, long, v.1) in (
+      length done + v.0,
+      omega (arith, within, w.1),
+      v.2 ∙ ap (λ t. t ++ take v.0 held) e ∙ append_assoc before done (take v.0 held)
+          ∙ ap (λ t. before ++ t) (sym (take-append-add done held v.0) ∙ ap (take (length done + v.0)) all ∙ take-take (length done + v.0) w.0 text within),
+    )

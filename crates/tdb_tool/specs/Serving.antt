@@ -1,12 +1,10 @@
 -- How parts of a session are done over a file, as far as they come, and their text is written.
-use Rattle.std.specs.Prelude.{◌≡◌, ℕ, ◌<◌, ◌≤◌, ◌+◌, ◌⊎◌, Bool, IsTrue, List, ◌∷◌, ◌++◌, Option, None, Some, Result, Ok, Err, IfOk, false}
+use Rattle.std.specs.Prelude.{◌≡◌, ℕ, ◌<◌, ◌≤◌, ◌+◌, ◌⊎◌, Bool, IsTrue, List, ◌∷◌, ◌++◌, Option, None, Some, Result, Ok, Err, IfOk, true, false}
 use Rattle.tdb_disk.specs.Count.{Rose}
 use Rattle.tdb_disk.specs.Stop.{LeavesOnly}
 use Rattle.tdb_space.specs.Form.{Form}
 use Rattle.tdb_backup.specs.Dump.{WroteFront}
 use Rattle.tdb_dump.specs.declared.listing.Listing.{Listing}
-use Rattle.tdb_dump.specs.declared.writer.WriteRefusal.{WriteRefusal}
-use Rattle.tdb_dump.specs.declared.writer.WriteRefusal.TheVariants as Untold
 use Rattle.tdb_law.specs.Plays.{Gives}
 use Rattle.tdb_law.specs.World.{State}
 use Rattle.tdb_commands.specs.InLaw.{law_play, law_lines}
@@ -32,14 +30,10 @@ use Rattle.tdb_tool.specs.Asking.{LinesAsk, EndsBefore, Session, BeginsBy}
 use Rattle.tdb_tool.specs.Parts.{Part, Silent, parts_of, AllDone, AllCame}
 use Rattle.tdb_tool.specs.Replies.{lines_text, tell_pair}
 
--- the fault of a session, by that of its plays, of its output and of its logs
+-- the fault of a session, by that of its plays and of its logs
 abbrev pub of_run : RunFault → SessionFault
 of_run Run.Io = F.Device
 of_run Run.Memory = F.Memory
-
-abbrev pub of_write : WriteRefusal → SessionFault
-of_write Untold.Failed = F.Output
-of_write Untold.Memory = F.Memory
 
 abbrev pub of_log : LogRefusal → SessionFault
 of_log Unheard.Failed = F.Log
@@ -49,6 +43,11 @@ of_log Unheard.Memory = F.Memory
 abbrev pub fault_of : {V : Type 0} → Result V SessionFault → Option SessionFault
 fault_of (Ok v) = None
 fault_of (Err fault) = Some fault
+
+-- plays broke off since the disk failed
+abbrev pub is_broken : Option SessionFault → Bool
+is_broken (Some F.Device) = true
+is_broken answer = false
 
 -- what holds unless the disk failed, and where it did
 abbrev pub UnlessBroken : Option SessionFault → Type 0 → Type 0
@@ -154,6 +153,17 @@ PlayBegun play listing f old lines text new = PlaysLast f old (law_play play) (l
 
 abbrev pub Played : (disk_tells output_tells : Bool) (old new : Scene) → Play → Option Listing → Result Bool SessionFault → Type 0
 Played d o old new play listing answer = Led d o (PlayDone play listing answer) (PlayBegun play listing) old new (fault_of answer)
+
+-- Text that was held is held on: a front of it was written behind what was there, and the rest is held.
+abbrev pub HeldBehind : (before text now left : List ℕ) → Type 0
+HeldBehind before text now left = (front : List ℕ) × (now ≡ before ++ front) × (front ++ left ≡ text)
+
+-- How a part of a session ends whose plays left this text, and broke off so, if they did: so, and the text was written
+-- behind what was there, unless the disk failed; or a write failed, and of the text a front was written.
+abbrev pub EndsPrinted : (output_tells : Bool) (plays : Option SessionFault) (before text now : List ℕ) (answer : Option SessionFault) → Type 0
+EndsPrinted o plays before text now answer =
+    ((answer ≡ plays) × (IsTrue o → UnlessBroken plays (now ≡ before ++ text) × OnBroken plays (now ≡ before)))
+    ⊎ ((answer ≡ Some F.Output) × (is_broken plays ≡ false) × (IsTrue o → WroteFront before text now))
 
 -- What the next lines ask for was done, and the others are left, of which the first begins at the next place; or the
 -- session ends before them; or what was asked for broke off.

@@ -2,10 +2,10 @@
 
 ghost use Rattle.std.specs.Prelude.{◌≡◌};
 ghost use Rattle.tdb_tool.specs.declared.fault.SessionFault.TheVariants as FaultIs;
-ghost use Rattle.tdb_tool.specs.Serving.{of_run, of_write, of_log};
+ghost use Rattle.tdb_tool.specs.Serving.{of_run, of_log};
 
 use std::alloc::AllocError;
-use tdb_dump::WriteRefusal;
+use tdb_disk::SinkFault;
 use tdb_log::LogRefusal;
 use tdb_openers::RunFault;
 use thiserror::Error;
@@ -57,14 +57,11 @@ impl From<RunFault> for SessionFault {
     }
 }
 
-impl From<WriteRefusal> for SessionFault {
-    ghost from_gives = { λ refusal e. e ≡ of_write refusal };
+impl From<SinkFault> for SessionFault {
+    ghost from_gives = { λ _ e. e ≡ FaultIs.Output };
 
-    fn from(refusal: WriteRefusal) -> Self {
-        match refusal {
-            WriteRefusal::Failed => SessionFault::Output,
-            WriteRefusal::Memory => SessionFault::Memory,
-        }
+    fn from(_: SinkFault) -> Self {
+        SessionFault::Output
     }
 }
 

@@ -6,6 +6,7 @@ mod fault;
 mod limits;
 mod lines;
 mod order;
+mod printing;
 mod reader;
 mod replies;
 mod rows;

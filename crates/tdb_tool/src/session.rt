@@ -66,19 +66,20 @@ fn serve_and_close<D: Disk, I: Source, K: Sink, L: Logs>(
 
 /// Does what the lines of the input order, in a world over an opened file, by one opener that joins first and closes at
 /// the end; then the world is given up, and the disk comes back. The last log is told what each command did to the
-/// file. Then its reply and a newline are printed, and of a list each pair or key when it is found.
+/// file. Then its reply and a newline are printed; but of a list each pair or key, in pieces of less than 64 KiB or of
+/// one pair, the last of them at the end of the list.
 ///
 /// The input is read in pieces, and no further than the next order's line as long as that is at hand. A session ends
 /// where the input does, at `quit`, or before a line that is no order, ends beyond `LONGEST_SESSION` bytes, or is
 /// longer than `LONGEST_LINE`. A transaction that is open then isn't committed.
 ///
 /// `Input` where a read failed, with all orders up to there done; `Output` where a write failed, which no command
-/// follows; `Device` where the disk did; `Log` where a log failed, with the reply printed of the command whose notice
-/// it didn't take; `Memory` where that was wanting, for the close too. Then the opener isn't closed, but by a close
-/// whose notice a log refused.
+/// follows; `Device` where the disk did, and then no more of a list is printed; `Log` where a log failed, with the reply
+/// printed of the command whose notice it didn't take; `Memory` where that was wanting, for the close too. Then the
+/// opener isn't closed, but by a close whose notice a log refused.
 ///
 /// Cost: that of the commands, and one pass over the text; memory for a piece of the input, the line at hand, of a list
-/// one pair, and the pages of the file that a transaction changes.
+/// one pair and up to 64 KiB of text, and the pages of the file that a transaction changes.
 pub fn run_session<D: Disk, I: Source, K: Sink, L: Logs>(
     alloc: Global,
     mut world: World<D>,

@@ -1,17 +1,19 @@
 // The parts of a session, as the one opener takes them.
 
-ghost use Rattle.std.specs.Prelude.{◌≡◌, ◌≢◌, ◌∷◌, [], ℕ, Bool, List, IfErr, false};
+ghost use Rattle.std.specs.Prelude.{◌≡◌, ◌≢◌, ◌∷◌, ◌++◌, [], ℕ, Bool, List, IfErr, false};
 ghost use Rattle.tdb_disk.specs.Count.{HasCauseOf};
+ghost use Rattle.tdb_commands.specs.Short.{IsShortCommand};
 ghost use Rattle.tdb_world.specs.Courses.Playable.{IsPlayable};
 ghost use Rattle.tdb_tool.specs.declared.fault.SessionFault.TheVariants as FaultIs;
-ghost use Rattle.tdb_tool.specs.Parts.{Silent, Listed, doing as doing_of, move as move_of, part_of, IsServedOrder};
+ghost use Rattle.tdb_tool.specs.Parts.{Silent, Told, Listed, doing as doing_of, move as move_of, part_of, IsServedOrder};
 ghost use Rattle.tdb_world.specs.Courses.Scene.{scene};
 ghost use Rattle.tdb_tool.specs.Serving.{fault_of, Ran, Played};
 
 use crate::fault::SessionFault;
 use crate::limits::MOST_MOVES;
 use crate::order::Order;
-use crate::replies::{has_pair, write_replies};
+use crate::printing::{end_part, hold};
+use crate::replies::{has_pair, push_replies};
 use std::alloc::Global;
 use tdb_commands::{Command, Play, TurnReport};
 use tdb_disk::{Disk, Sink};
@@ -49,28 +51,52 @@ pub(crate) fn take_silently<D: Disk, L: Logs>(
     Ok(())
 }
 
-/// Takes a play, tells the logs what became of the file, and prints of its reply what is to be printed where pairs are
-/// listed so or aren't; that is printed too where a log refused. Whether it gave a pair.
-fn take_play<D: Disk, K: Sink, L: Logs>(
+/// Takes a play, tells the logs what became of the file, and puts what is to be printed of its reply, where pairs are
+/// listed so or aren't, in the place of a text; that too where a log refused. Whether it gave a pair.
+fn take_play<D: Disk, L: Logs>(
     alloc: Global,
     world: &mut World<D>,
     play: Play,
     listing: Option<Listing>,
-    output: &mut K,
+    text: &mut Vec<u8>,
     logs: &mut L,
 ) -> Result<bool, SessionFault>
     requires unspent { world.old.spent ≡ false }
     requires playable { IsPlayable play }
-    ensures played { Played D.tells K.tells (scene world.old (K.written output.old) (L.logs logs.old))
-        (scene world.new (K.written output.new) (L.logs logs.new)) play listing result }
+    ensures played { (told : Bool) (written : List ℕ) → Played D.tells told (scene world.old written (L.logs logs.old))
+        (scene world.new (written ++ text.new.items) (L.logs logs.new)) play listing result }
+    ensures fault { IfErr result (λ e. (e ≢ FaultIs.Input) × (e ≢ FaultIs.Output)) }
+{
+    text.clear();
+    let mut report = TurnReport::new(alloc);
+    let told = world.play(&play, &mut report, logs)?;
+    push_replies(alloc, text, &report, listing)?;
+    told?;
+    Ok(has_pair(&report))
+}
+
+/// Takes a command, and prints its reply in one write.
+fn take_command<D: Disk, K: Sink, L: Logs>(
+    alloc: Global,
+    world: &mut World<D>,
+    command: Command,
+    output: &mut K,
+    logs: &mut L,
+) -> Result<(), SessionFault>
+    requires unspent { world.old.spent ≡ false }
+    requires short { IsShortCommand command }
+    ensures ran { Ran D.tells K.tells (scene world.old (K.written output.old) (L.logs logs.old))
+        (scene world.new (K.written output.new) (L.logs logs.new)) (Told (doing_of command) ∷ []) (fault_of result) }
     ensures fault { IfErr result (λ e. e ≢ FaultIs.Input) }
     ensures cause { HasCauseOf FaultIs.Output (K.faults output.old) (K.faults output.new) result }
 {
-    let mut report = TurnReport::new(alloc);
-    let told = world.play(&play, &mut report, logs)?;
-    write_replies(alloc, &report, listing, output)?;
-    told?;
-    Ok(has_pair(&report))
+    let mut held = Vec::new(alloc);
+    let mut text = Vec::new(alloc);
+    let play = doing(command);
+    match take_play(alloc, world, play, None, &mut text, logs) {
+        Ok(_) => end_part(output, &mut held, &mut text, Ok(())),
+        Err(fault) => end_part(output, &mut held, &mut text, Err(fault)),
+    }
 }
 
 /// The move of a list that comes behind so many others.
@@ -84,8 +110,9 @@ fn list_move(moves: u32) -> Play
     })
 }
 
-/// Lists all pairs: takes First, and then Next up to a move that gives no pair, and prints each pair before the next
-/// move. Where the bytes of the file change by themselves a walk might never end: the list is cut off then.
+/// Lists all pairs: takes First, and then Next up to a move that gives no pair. What is printed of them is held, and
+/// written where it would be a piece, and behind the last move; but not where the disk fails. Where the bytes of the
+/// file change by themselves a walk might never end: the list is cut off then.
 fn take_list<D: Disk, K: Sink, L: Logs>(
     alloc: Global,
     world: &mut World<D>,
@@ -100,13 +127,17 @@ fn take_list<D: Disk, K: Sink, L: Logs>(
     ensures cause { HasCauseOf FaultIs.Output (K.faults output.old) (K.faults output.new) result }
 {
     world.stands();
+    let mut held = Vec::new(alloc);
+    let mut text = Vec::new(alloc);
     for moves in 0..MOST_MOVES {
         let next = list_move(moves);
-        if !take_play(alloc, world, next, Some(listing), output, logs)? {
-            return Ok(());
+        match take_play(alloc, world, next, Some(listing), &mut text, logs) {
+            Ok(true) => hold(output, &mut held, &mut text)?,
+            Ok(false) => return end_part(output, &mut held, &mut text, Ok(())),
+            Err(fault) => return end_part(output, &mut held, &mut text, Err(fault)),
         }
     }
-    Ok(())
+    end_part(output, &mut held, &mut Vec::new(alloc), Ok(()))
 }
 
 /// Does what is ordered, and prints what is to be printed of it.
@@ -125,10 +156,7 @@ pub(crate) fn take_order<D: Disk, K: Sink, L: Logs>(
     ensures cause { HasCauseOf FaultIs.Output (K.faults output.old) (K.faults output.new) result }
 {
     match order {
-        Order::Take(command) => {
-            take_play(alloc, world, doing(command), None, output, logs)?;
-            Ok(())
-        }
+        Order::Take(command) => take_command(alloc, world, command, output, logs),
         Order::List(listing) => take_list(alloc, world, listing, output, logs),
         Order::Quit => Ok(()),
     }

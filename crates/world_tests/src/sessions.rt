@@ -61,7 +61,7 @@ const ENDED: Result<SessionEnd, SessionFault> = Ok(SessionEnd::Ended);
 const NOTHING: Failing = Failing::Nothing;
 
 // In seven chains `a` is in the first, and `b` and `c` in the last, with the one in front that came later.
-static SESSIONS: [(&'static str, Session); 22] = [
+static SESSIONS: [(&'static str, Session); 23] = [
     ("nothing", (NOTHING, "", "", ENDED)),
     (
         "keys that come and go",
@@ -232,11 +232,20 @@ static SESSIONS: [(&'static str, Session); 22] = [
         ),
     ),
     (
-        "a write of a list",
+        "the write of a list",
+        (
+            Failing::Output(2),
+            "store a 1\nstore b 2\nkeys\n",
+            "ok\nok\n",
+            Err(SessionFault::Output),
+        ),
+    ),
+    (
+        "the write behind that of a list",
         (
             Failing::Output(3),
-            "store a 1\nstore b 2\nkeys\n",
-            "ok\nok\nkey(1) = \"a\"\n",
+            "store a 1\nstore b 2\nkeys\ncheck\n",
+            "ok\nok\nkey(1) = \"a\"\nkey(1) = \"b\"\n",
             Err(SessionFault::Output),
         ),
     ),
