@@ -20,3 +20,4 @@ pub mod NewRecord
 pub mod Stays
 pub mod SpareLeft
 pub mod Record
+pub mod Results

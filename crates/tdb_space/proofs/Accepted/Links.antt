@@ -50,7 +50,8 @@ module _ (f : Form) (a b : List ℕ) (h : HandPair) (hs : List HandPair) (k v : 
   old_pairs : pairs f.order b (chain_of f a (home f k)) ≡ pairs f.order a (chain_of f a (home f k))
   old_pairs = pairs_kept f IsChained a b (home f k) (word f.order a (chain_head (home f k))) (chain_of f a (home f k)) longer (A.chains (home f k) low_j) bodies (A.filed (home f k) low_j)
 
-  new_pairs : pairs f.order b (h.0 ∷ chain_of f a (home f k)) ≡ (k, v) ∷ pairs f.order a (chain_of f a (home f k))
+  -- its pair comes in front of those of the chain
+  pub new_pairs : pairs f.order b (h.0 ∷ chain_of f a (home f k)) ≡ (k, v) ∷ pairs f.order a (chain_of f a (home f k))
   new_pairs = pairs_used f.order b h.0 (chain_of f a (home f k)) P.filled.used ∙ (λ i. (P.filled.has_key i, P.filled.has_value i) ∷ old_pairs i)
 
   -- no record of the chain has the key

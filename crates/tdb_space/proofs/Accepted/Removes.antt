@@ -133,7 +133,8 @@ module _ (f : Form) (a b : List ℕ) (j : ℕ) (before y : ℕ) (hands : List Ha
   bodies : Bodies a b f (chain_of f a j)
   bodies = unlinked_bodies f IsChained a b (chain_head j) (chain_of f a j) before y (A.chains j low_j) low_head held led L
 
-  left_pairs : pairs f.order b (without y (chain_of f a j)) ≡ pairs f.order a (without y (chain_of f a j))
+  -- the pairs of the records that are left stay
+  pub left_pairs : pairs f.order b (without y (chain_of f a j)) ≡ pairs f.order a (without y (chain_of f a j))
   left_pairs = pairs_left f IsChained a b j (word f.order a (chain_head j)) (chain_of f a j) y longer (A.chains j low_j) bodies (A.filed j low_j)
 
   member : Member y (chain_of f a j)

@@ -11,11 +11,12 @@ use Rattle.tdb_space.specs.Chain.{Linked, chain_of, free_of}
 use Rattle.tdb_space.specs.Pairs.{pairs, map_of, home, same_key}
 use Rattle.tdb_space.specs.Extents.{HandPair, times, extents, extent_at, area, hand_extents}
 use Rattle.tdb_space.specs.Accepted.{AcceptWith}
-use Rattle.tdb_space.specs.Exchange.{Exchanged, FreeExchanged, ButSequence}
+use Rattle.tdb_space.specs.Exchange.{Exchanged, FreeExchanged, InHands, ButSequence}
 use Rattle.tdb_space.specs.Stays.{ChainStays, FreeStays, FrontStays, ChangesOnly, ChainsStay}
 use Rattle.tdb_space.proofs.Extents.Counts.{once_in, times_all, times_member, times_two}
 use Rattle.tdb_space.proofs.Exchange.Kept.{Still, bodies_still, extents_kept, list_left, pairs_kept, times_within, word_kept}
 use Rattle.tdb_space.proofs.Accepted.Areas.{area_within}
+use Rattle.tdb_space.proofs.Accepted.Hands.{hands_above}
 use Rattle.tdb_space.proofs.Accepted.Laid.{accepted_filed}
 use Rattle.tdb_space.proofs.Pairs.Maps.{map_home, home_below}
 use Rattle.tdb_space.proofs.Sequence.SameImages.{sequence_accepted, sequence_map}
@@ -71,6 +72,10 @@ changes_none f a May = record {
   front = record { longer = omega arith; low = λ _ _ _. refl; undo_area = λ _ _. refl };
   chains = λ _ _ _. record { head = refl; same_offsets = refl; bytes = λ _ _. refl };
 }
+
+-- the free list stays where nothing changed
+pub frees_none : (f : Form) (a : List ℕ) → FreeStays f a a
+frees_none f a = record { head = refl; same_offsets = refl; bytes = λ _ _. refl }
 
 -- more chains may have changed
 pub changes_weaker : (f : Form) (a b : List ℕ) (May More : ℕ → Type 0) → ((k : ℕ) → May k → More k) → ChangesOnly f a b May → ChangesOnly f a b More
@@ -187,6 +192,28 @@ module _ (f : Form) (a b : List ℕ) (hands : List HandPair) (A : AcceptWith f a
       free_stays f a b hands A longer (word_agrees f.order b a free_head (λ i from to. same i (omega (arith, A.long))))
       (λ i held. same i (free_in f a hands A i held).1)
 
+-- bytes of hands change: neither a chain nor the free list does
+module _ (f : Form) (a b : List ℕ) (hands : List HandPair) (A : AcceptWith f a hands) (W : InHands f a b hands) where
+  hands_low : (i : ℕ) → i < data_start f → slice_index b i ≡ slice_index a i
+  hands_low i below = W.others i (hands_above f a hands i A.held below)
+
+  pub hands_changes : ChangesOnly f a b (λ k. ⊥)
+  hands_changes = record {
+    front = record {
+      longer = omega (arith, W.size);
+      low = λ i below _. hands_low i (omega (arith, below));
+      undo_area = λ i held. W.others i (omega (arith, area_no_free f a hands A i held));
+    };
+    chains = λ k low _. chain_stays f a b hands k low A (omega (arith, W.size))
+        (word_agrees f.order b a (chain_head k) (λ i from to. hands_low i (omega (arith, to, low))))
+        (λ i held. W.others i (omega (arith, chain_no_free f a hands A k i low held)));
+  }
+
+  pub hands_free : FreeStays f a b
+  hands_free =
+      free_stays f a b hands A (omega (arith, W.size)) (word_agrees f.order b a free_head (λ i from to. hands_low i (omega (arith, to))))
+      (λ i held. W.others i (omega (arith, held, A.apart i, times_all f a (chain_of f a) (free_of f a) hands i)))
+
 -- the sequence number changes: neither a chain nor the free list does
 module _ (f : Form) (a b : List ℕ) (hands : List HandPair) (A : AcceptWith f a hands) (S : ButSequence a b) where
   pub sequence_changes : ChangesOnly f a b (λ k. ⊥)
@@ -222,11 +249,15 @@ stays_then f a b c hands news S T = record {
   only = changes_then f a b c (λ k. ⊥) S.only T.only;
 }
 
+-- a chain that stays holds the same pairs
+pub chain_pairs : (f : Form) (a b : List ℕ) (hands : List HandPair) (k : ℕ) → k < f.chains → AcceptWith f a hands → length a ≤ length b → ChainStays f a b k → pairs f.order b (chain_of f b k) ≡ pairs f.order a (chain_of f a k)
+chain_pairs f a b hands k low A longer S =
+    ap (pairs f.order b) S.same_offsets
+    ∙ pairs_kept f IsChained a b k (word f.order a (chain_head k)) (chain_of f a k) longer (A.chains k low) (bodies_still f a b (chain_of f a k) S.bytes) (A.filed k low)
+
 -- where a key's chain stays, what the map has for it does
 pub map_stays : (f : Form) (a b : List ℕ) (hands news : List HandPair) (key : List ℕ) → AcceptWith f a hands → AcceptWith f b news → length a ≤ length b → ChainStays f a b (home f key) → map_of f b key ≡ map_of f a key
 map_stays f a b hands news key A B longer S =
-    let low = home_below f key A.some in
-    let offs = chain_of f a (home f key) in
-    map_home f b key (accepted_filed f b news B) ∙ ap (λ xs. lookup (same_key key) (pairs f.order b xs)) S.same_offsets
-    ∙ ap (lookup (same_key key)) (pairs_kept f IsChained a b (home f key) (word f.order a (chain_head (home f key))) offs longer (A.chains (home f key) low) (bodies_still f a b offs S.bytes) (A.filed (home f key) low))
+    map_home f b key (accepted_filed f b news B)
+    ∙ ap (lookup (same_key key)) (chain_pairs f a b hands (home f key) (home_below f key A.some) A longer S)
     ∙ sym (map_home f a key (accepted_filed f a hands A))

@@ -1,0 +1,8 @@
+-- What holds of an answer.
+use Rattle.std.proofs.Common.{Result, Ok, Err}
+use Rattle.std.specs.Prelude.{OnErr}
+
+-- what holds anyway holds on a refusal
+pub on_err : {T E P : Type 0} (r : Result T E) → P → OnErr r P
+on_err (Ok x) p = tt
+on_err (Err e) p = p
