@@ -6,3 +6,4 @@ pub mod Touched
 pub mod Linked
 pub mod Raised
 pub mod Writing
+pub mod Stopped

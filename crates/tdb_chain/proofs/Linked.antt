@@ -106,29 +106,31 @@ module _ (f : Form) (a b : List ℕ) (h : HandPair) (hands : List HandPair) (key
   }
 
 -- a key whose old record is taken out first
-module _ (f : Form) (a m b : List ℕ) (h : HandPair) (hands : List HandPair) (key value : List ℕ) (p : Place) (A : AcceptWith f a (h ∷ hands)) (H : HoldsKey f a key p) (L : LedPast f a m p.before p.off) (P : PutInFront f m b h key value) where
-  taken : KeySet f a m key None (without p.off (chain_of f a (home f key))) [] (h ∷ hands) (hand_at p ∷ h ∷ hands)
+module _ (f : Form) (a m : List ℕ) (h : HandPair) (hands : List HandPair) (key : List ℕ) (p : Place) (A : AcceptWith f a (h ∷ hands)) (H : HoldsKey f a key p) (L : LedPast f a m p.before p.off) where
+  pub taken : KeySet f a m key None (without p.off (chain_of f a (home f key))) [] (h ∷ hands) (hand_at p ∷ h ∷ hands)
   taken = subst (λ k. KeySet f a m k None (without p.off (chain_of f a (home f k))) [] (h ∷ hands) (hand_at p ∷ h ∷ hands)) H.has_key (unlinked_set f a m (h ∷ hands) p A H.place L H.used)
 
-  turned : AcceptWith f m (h ∷ hand_at p ∷ hands)
+  pub turned : AcceptWith f m (h ∷ hand_at p ∷ hands)
   turned = turn_hands f m (hand_at p) h hands taken.changed.accepted
 
-  missing_then : map_of f m key ≡ None
+  pub missing_then : map_of f m key ≡ None
   missing_then = taken.map key ∙ update_same same_key (map_of f a) key None key (same_key-refl key)
 
-  put : KeySet f m b key (Some value) (h.0 ∷ chain_of f m (home f key)) (h ∷ []) (h ∷ hand_at p ∷ hands) (hand_at p ∷ hands)
-  put = linked_new f m b h (hand_at p ∷ hands) key value turned P missing_then
+  -- and then the new one is put in front
+  module _ (b value : List ℕ) (P : PutInFront f m b h key value) where
+    put : KeySet f m b key (Some value) (h.0 ∷ chain_of f m (home f key)) (h ∷ []) (h ∷ hand_at p ∷ hands) (hand_at p ∷ hands)
+    put = linked_new f m b h (hand_at p ∷ hands) key value turned P missing_then
 
-  pub linked_over : KeySet f a b key (Some value) (h.0 ∷ without p.off (chain_of f a (home f key))) (h ∷ []) (h ∷ hands) (hand_at p ∷ hands)
-  linked_over = record {
-    changed = changed_then f a m b (home f key) (without p.off (chain_of f a (home f key))) (h.0 ∷ without p.off (chain_of f a (home f key))) (h ∷ []) [] (h ∷ hands) (hand_at p ∷ h ∷ hands) (h ∷ hand_at p ∷ hands) (hand_at p ∷ hands)
-        taken.changed
-        (subst (λ offs. ChainChanged f m b (home f key) (h.0 ∷ offs) (h ∷ []) (h ∷ hand_at p ∷ hands) (hand_at p ∷ hands)) taken.changed.offsets put.changed)
-        (λ i. omega arith)
-        (λ i none. (omega arith, omega (arith, none, taken.changed.count i)));
-    map = λ q.
-        put.map q ∙ ap (λ o. cond (same_key key q) (Some value) o) (taken.map q) ∙ update-update same_key (map_of f a) key None (Some value) q;
-  }
+    pub linked_over : KeySet f a b key (Some value) (h.0 ∷ without p.off (chain_of f a (home f key))) (h ∷ []) (h ∷ hands) (hand_at p ∷ hands)
+    linked_over = record {
+      changed = changed_then f a m b (home f key) (without p.off (chain_of f a (home f key))) (h.0 ∷ without p.off (chain_of f a (home f key))) (h ∷ []) [] (h ∷ hands) (hand_at p ∷ h ∷ hands) (h ∷ hand_at p ∷ hands) (hand_at p ∷ hands)
+          taken.changed
+          (subst (λ offs. ChainChanged f m b (home f key) (h.0 ∷ offs) (h ∷ []) (h ∷ hand_at p ∷ hands) (hand_at p ∷ hands)) taken.changed.offsets put.changed)
+          (λ i. omega arith)
+          (λ i none. (omega arith, omega (arith, none, taken.changed.count i)));
+      map = λ q.
+          put.map q ∙ ap (λ o. cond (same_key key q) (Some value) o) (taken.map q) ∙ update-update same_key (map_of f a) key None (Some value) q;
+    }
 
 -- a hand is in place in an image that is as long
 pub hand_moved : (f : Form) (a m : List ℕ) (h : HandPair) → length m ≡ length a → HandOk f a h → HandOk f m h
@@ -141,7 +143,7 @@ link_set f a m b h hands key value None out A missing took P back =
     (linked_new f a b h hands key value A (subst (λ img. PutInFront f img b h key value) took P) missing)
 link_set f a m b h hands key value (Some p) out A holds took P back =
     subst (λ o. KeySet f a b key (Some value) (h.0 ∷ without p.off (chain_of f a (home f key))) (h ∷ []) (h ∷ hands) (with_hand o hands)) (sym back)
-    (linked_over f a m b h hands key value p A holds (took holds.place) P)
+    (linked_over f a m h hands key p A holds (took holds.place) b value P)
 
 -- the same from what the calls answer, each of them over a view of its own
 pub link_by_calls : (f k l : Form) (a v m b : List ℕ) (h : HandPair) (at n : ℕ) (hands : List HandPair) (key value : List ℕ) (over : Option Place) (out : Option HandPair) → k ≡ f → l ≡ f → v ≡ a → at ≡ h.0 → n ≡ h.1 → length m ≡ length a → AcceptWith f a (h ∷ hands) → IsFound f a key over → TookOut k v m over → (HandOk l m (at, n) → PutInFront l m b (at, n) key value) → out ≡ hands_back over → KeySet f a b key (Some value) (h.0 ∷ without_place over (chain_of f a (home f key))) (h ∷ []) (h ∷ hands) (with_hand out hands)

@@ -5,6 +5,7 @@ use Rattle.std.specs.Map.{update}
 use Rattle.std.proofs.lemmas.Bool.{cases_lt}
 use Rattle.std.proofs.Math.Seq.{take-length}
 use Rattle.tdb_disk.specs.Image.{overlay}
+use Rattle.tdb_disk.specs.Stop.{Torn}
 use Rattle.tdb_disk.proofs.Image.{length-overlay, overlay_below, overlay_above}
 use Rattle.tdb_words.specs.declared.record.TheConstants.{USED, DEAD}
 use Rattle.tdb_words.specs.declared.record.Rec.{Rec}
@@ -21,6 +22,7 @@ use Rattle.tdb_space.proofs.Extents.Counts.{once_in}
 use Rattle.tdb_space.proofs.Exchange.Kept.{part_kept}
 use Rattle.tdb_space.proofs.Chain.Members.{member_held}
 use Rattle.tdb_space.proofs.Exchange.Overlaid.{word_length, word_put, part_overlaid}
+use Rattle.tdb_space.proofs.Accepted.Removes.{filed_member}
 use Rattle.tdb_space.proofs.Accepted.Updates.{mark_exchanged, mark_map, update_exchanged, update_map}
 use Rattle.tdb_chain.specs.declared.place.Place.{Place}
 use Rattle.tdb_chain.specs.Place.{HoldsKey}
@@ -200,3 +202,59 @@ module _ (f : Form) (a b : List ℕ) (hands : List HandPair) (key : List ℕ) (p
         (update_exchanged f a b H.place.chain p.off hands H.place.below A member used put_touched put_long used_now key_left (word_left 16 (inr (omega arith, omega arith))) fits_now)
         (λ q. subst (λ v. map_of f b q ≡ update same_key (map_of f a) (key_at f.order a p.off) (Some v) q) data_now
         (update_map f a b H.place.chain p.off hands H.place.below A member used put_touched put_long used_now key_left (word_left 16 (inr (omega arith, omega arith))) fits_now q))
+
+    -- the same, by what is read of the record then
+    pub updated_reads : KeySet f a b key (Some (data_at f.order b p.off)) (chain_of f a (home f key)) [] hands hands
+    updated_reads = subst (λ v. KeySet f a b key (Some v) (chain_of f a (home f key)) [] hands hands) (sym data_now) updated_set
+
+  -- at most so many bytes behind the key change
+  module _ (n : ℕ) (room : p.rec.key_len + n + 4 ≤ p.rec.rec_len) (torn : Torn (p.off + 24 + p.rec.key_len) n a b) where
+    torn_rec : p.rec.rec_len ≡ rec_len_of f.order a p.off
+    torn_rec = place_len f a p H.place
+
+    torn_key : p.rec.key_len ≡ key_len_of f.order a p.off
+    torn_key = ap (λ (r : Rec). r.key_len) H.place.header
+
+    torn_beside : (i : ℕ) → (i < p.off + 24 + p.rec.key_len) ⊎ (p.off + 24 + p.rec.key_len + n ≤ i) → slice_index b i ≡ slice_index a i
+    torn_beside i outside = elim outside [ inl under ↦ torn.below i under | inr over ↦ torn.above i over ]
+
+    torn_same : (i : ℕ) → (i < p.off + 8) ⊎ (p.off + 20 + rec_len_of f.order a p.off ≤ i) → slice_index b i ≡ slice_index a i
+    torn_same i outside =
+        torn_beside i (elim outside [ inl under ↦ inl (omega (arith, under)) | inr over ↦ inr (omega (arith, over, torn_rec, room)) ])
+
+    torn_touched : Touched f a b p.off
+    torn_touched = touched_there f a b p.off whole torn.size torn_same
+
+    torn_long : rec_len_of f.order b p.off ≡ rec_len_of f.order a p.off
+    torn_long = touched_long f a b p.off whole torn.size torn_same
+
+    -- the words of the header
+    torn_word : (k : ℕ) → k + 4 ≤ 24 → word f.order b (p.off + k) ≡ word f.order a (p.off + k)
+    torn_word k low = word_agrees f.order b a (p.off + k) (λ i from to. torn_beside i (inl (omega (arith, low, to))))
+
+    torn_key_len : key_len_of f.order b p.off ≡ key_len_of f.order a p.off
+    torn_key_len = torn_word 8 (omega arith)
+
+    torn_data_len : data_len_of f.order b p.off ≡ data_len_of f.order a p.off
+    torn_data_len = torn_word 12 (omega arith)
+
+    torn_key_there : key_at f.order b p.off ≡ key_at f.order a p.off
+    torn_key_there =
+        ap (λ m. take m (drop (p.off + 24) b)) torn_key_len
+        ∙ part_kept a b (p.off + 24) (key_len_of f.order a p.off) (omega (arith, torn_key, torn_rec, room, whole.within)) (omega (arith, torn.size))
+        (λ i low high. torn_beside i (inl (omega (arith, high, torn_key))))
+
+    torn_fits : Fits f.order b p.off
+    torn_fits =
+        let fits : Fits f.order a p.off = (filed_member f a H.place.chain (chain_of f a H.place.chain) p.off (A.filed H.place.chain H.place.below) member used).fits in
+        omega (arith, torn_key_len, torn_data_len, torn_long, fits)
+
+    torn_used : magic_of f.order b p.off ≡ USED
+    torn_used = torn_word 20 (omega arith) ∙ used
+
+    -- so the map has another value at the key, which is as long as the old one
+    pub torn_set : KeySet f a b key (Some (data_at f.order b p.off)) (chain_of f a (home f key)) [] hands hands
+    torn_set =
+        touched_set (Some (data_at f.order b p.off)) torn_touched
+        (update_exchanged f a b H.place.chain p.off hands H.place.below A member used torn_touched torn_long torn_used torn_key_there (torn_word 16 (omega arith)) torn_fits)
+        (update_map f a b H.place.chain p.off hands H.place.below A member used torn_touched torn_long torn_used torn_key_there (torn_word 16 (omega arith)) torn_fits)

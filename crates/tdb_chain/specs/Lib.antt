@@ -2,3 +2,4 @@ pub mod Place
 pub mod Wanted
 pub mod Changed
 pub mod Raised
+pub mod Stopped

@@ -1,6 +1,6 @@
 // A record is put in front of its chain.
 
-ghost use Rattle.std.specs.Prelude.{◌≡◌, ◌+◌, ◌/◌, ◌≤◌, ◌<◌, ◌^◌, ◌++◌, ℕ, List, [], ◌∷◌, Some, length, slice_index, IsTrue, IfOk, IfSome, OnOk};
+ghost use Rattle.std.specs.Prelude.{◌≡◌, ◌+◌, ◌/◌, ◌≤◌, ◌<◌, ◌^◌, ◌⊎◌, ◌++◌, ℕ, List, [], ◌∷◌, Some, length, slice_index, IsTrue, IfOk, IfSome, OnOk, OnErr};
 ghost use Rattle.tdb_disk.specs.Count.{HasCause};
 ghost use Rattle.tdb_words.specs.declared.record.TheConstants.{PADDING};
 ghost use Rattle.tdb_words.specs.Hash.{h_of};
@@ -10,12 +10,13 @@ ghost use Rattle.tdb_space.specs.Chain.{chain_of};
 ghost use Rattle.tdb_space.specs.Pairs.{home};
 ghost use Rattle.tdb_space.specs.Extents.{HandPair, HandOk};
 ghost use Rattle.tdb_space.specs.Accepted.{AcceptWith};
-ghost use Rattle.tdb_space.specs.Exchange.{PutInFront};
+ghost use Rattle.tdb_space.specs.Exchange.{InHands, PutInFront};
 ghost use Rattle.tdb_space.specs.Spare.{RoomForAll};
 ghost use Rattle.tdb_space.specs.SpareLeft.{LeavesRoom};
 ghost use Rattle.tdb_space.specs.Stays.{OnlyIn};
 ghost use Rattle.tdb_chain.specs.Place.{StandsWithin, IsFound};
 ghost use Rattle.tdb_chain.specs.Changed.{KeySet, IsPadded, with_hand, without_place, hands_back, word_before};
+ghost use Rattle.tdb_chain.specs.Stopped.{LinkStopped};
 
 use crate::place::Place;
 use crate::record_writing::{put_word, write_record};
@@ -44,6 +45,9 @@ fn put_in_front<S: Space>(
         → PutInFront (S.form s.old) (S.image s.old) (S.image s.new) (at, rec_len) key.now value.now) }
     ensures padded { OnOk result (IsTrue S.tells → S.size s.old < 2 ^ 32 → HandOk (S.form s.old) (S.image s.old) (at, rec_len)
         → IsPadded (S.image s.new) (at, rec_len) (length key.now + length value.now)) }
+    ensures stopped { OnErr result (IsTrue S.tells → S.size s.old < 2 ^ 32 → HandOk (S.form s.old) (S.image s.old) (at, rec_len)
+        → InHands (S.form s.old) (S.image s.old) (S.image s.new) ((at, rec_len) ∷ [])
+        ⊎ PutInFront (S.form s.old) (S.image s.old) (S.image s.new) (at, rec_len) key.now value.now) }
     ensures written { IsTrue S.tells → OnlyIn ((chain_head (home (S.form s.old) key.now), 4) ∷ (at, 24 + rec_len) ∷ []) (S.image s.old) (S.image s.new) }
     ensures size { S.size s.new ≡ S.size s.old }
     ensures wrote { Wrote S.Space s.old s.new }
@@ -72,7 +76,8 @@ fn put_in_front<S: Space>(
 /// The old record is taken out first, by one word; nothing is written into it. The record is written at once where it
 /// has at most 4096 bytes, and at last the head of the chain. `Io` where the disk failed: then the hand and the old
 /// record's place are given up, and other bytes than those of the hand, the head and the word that led to the old
-/// record are as they were.
+/// record are as they were. The chain has the records that it had, or those without the old one, or the new one in
+/// front of these: its head never leads to a part of a record.
 pub fn link<S: Space>(
     s: &mut S,
     h: Hand,
@@ -92,6 +97,9 @@ pub fn link<S: Space>(
         → out ≡ hands_back over) }
     ensures padded { OnOk result (IsTrue S.tells → S.size s.old < 2 ^ 32 → (hands : List HandPair) → AcceptWith (S.form s.old) (S.image s.old) (h ∷ hands)
         → IsPadded (S.image s.new) h (length key.now + length value.now)) }
+    ensures stopped { OnErr result (IsTrue S.tells → S.size s.old < 2 ^ 32 → (hands : List HandPair) → AcceptWith (S.form s.old) (S.image s.old) (h ∷ hands)
+        → IsFound (S.form s.old) (S.image s.old) key.now over
+        → LinkStopped (S.form s.old) (S.image s.old) (S.image s.new) key.now value.now over h hands) }
     ensures written { IsTrue S.tells
         → OnlyIn ((chain_head (home (S.form s.old) key.now), 4) ∷ (h.0, 24 + h.1) ∷ word_before over) (S.image s.old) (S.image s.new) }
     ensures size { S.size s.new ≡ S.size s.old }

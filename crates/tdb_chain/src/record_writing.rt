@@ -11,6 +11,7 @@ ghost use Rattle.tdb_space.specs.NewRecord.{record_bytes};
 ghost use Rattle.tdb_space.specs.Spare.{RoomForAll};
 ghost use Rattle.tdb_space.specs.SpareLeft.{LeavesRoom};
 ghost use Rattle.tdb_space.specs.Stays.{OnlyIn};
+ghost use Rattle.tdb_chain.specs.Changed.{OldOrWord};
 
 use tdb_space::{Io, Space, fill_record};
 use tdb_words::{PADDING, Rec, rec_bytes, word_bytes};
@@ -38,12 +39,13 @@ fn put<S: Space>(s: &mut S, at: u64, bytes: &[u8]) -> Result<(), Io>
     Ok(())
 }
 
-/// Writes an aligned word.
+/// Writes an aligned word. After a fault it is old or new as a whole.
 pub(crate) fn put_word<S: Space>(s: &mut S, at: u64, word: u32) -> Result<(), Io>
     requires aligned { at % 4 ≡ 0 }
     requires within { at + 4 ≤ S.size s.old }
     requires room { RoomForAll (S.spare s.old) 1 4 }
     ensures written { OnOk result (IsTrue S.tells → S.image s.new ≡ overlay (S.image s.old) at (bytes_of_word (S.form s.old).order word)) }
+    ensures old_or_new { IsTrue S.tells → OldOrWord (S.form s.old).order (S.image s.old) at word (S.image s.new) }
     ensures only { IsTrue S.tells → OnlyIn ((at, 4) ∷ []) (S.image s.old) (S.image s.new) }
     ensures size { S.size s.new ≡ S.size s.old }
     ensures wrote { Wrote S.Space s.old s.new }

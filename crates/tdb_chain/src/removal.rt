@@ -1,6 +1,6 @@
 // A record is taken out of its chain.
 
-ghost use Rattle.std.specs.Prelude.{◌≡◌, ◌≤◌, ℕ, List, [], ◌∷◌, None, IsTrue, IfOk, IfSome, OnOk};
+ghost use Rattle.std.specs.Prelude.{◌≡◌, ◌⊎◌, ◌≤◌, ℕ, List, [], ◌∷◌, None, IsTrue, IfOk, IfSome, OnOk, OnErr};
 ghost use Rattle.tdb_disk.specs.Count.{HasCause};
 ghost use Rattle.tdb_disk.specs.Image.{overlay};
 ghost use Rattle.tdb_words.specs.Word.{bytes_of_word};
@@ -41,6 +41,7 @@ pub(crate) fn lead_past_old<S: Space>(s: &mut S, old: Option<Place>) -> Result<(
     requires within { IfSome old (λ p. StandsWithin p (S.size s.old)) }
     requires room { RoomForAll (S.spare s.old) 1 4 }
     ensures took { OnOk result (IsTrue S.tells → TookOut (S.form s.old) (S.image s.old) (S.image s.new) old) }
+    ensures stopped { OnErr result (IsTrue S.tells → (S.image s.new ≡ S.image s.old) ⊎ TookOut (S.form s.old) (S.image s.old) (S.image s.new) old) }
     ensures written { IsTrue S.tells → OnlyIn (word_before old) (S.image s.old) (S.image s.new) }
     ensures size { S.size s.new ≡ S.size s.old }
     ensures wrote { Wrote S.Space s.old s.new }
@@ -59,8 +60,8 @@ pub(crate) fn lead_past_old<S: Space>(s: &mut S, old: Option<Place>) -> Result<(
 
 /// Takes the used record of a place out of its chain, and answers it as a hand. The map loses its key, and no other.
 ///
-/// It writes the word that led to the record, and nothing into the record. `Io` where the disk failed: then the word
-/// leads to the record or past it.
+/// It writes the word that led to the record, and nothing into the record. `Io` where the disk failed: then the file is
+/// as it was, or as the call makes it.
 pub fn unlink<S: Space>(s: &mut S, p: Place) -> Result<Hand, Io>
     requires within { StandsWithin p (S.size s.old) }
     requires room { RoomForAll (S.spare s.old) 1 4 }
@@ -68,6 +69,10 @@ pub fn unlink<S: Space>(s: &mut S, p: Place) -> Result<Hand, Io>
         → IsPlace (S.form s.old) (S.image s.old) p → p.rec.magic ≡ USED
         → KeySet (S.form s.old) (S.image s.old) (S.image s.new) (key_at (S.form s.old).order (S.image s.old) p.off) None
         (without p.off (chain_of (S.form s.old) (S.image s.old) (home (S.form s.old) (key_at (S.form s.old).order (S.image s.old) p.off)))) [] hands (h ∷ hands)) }
+    ensures stopped { OnErr result (IsTrue S.tells → (hands : List HandPair) → AcceptWith (S.form s.old) (S.image s.old) hands
+        → IsPlace (S.form s.old) (S.image s.old) p → p.rec.magic ≡ USED
+        → (S.image s.new ≡ S.image s.old) ⊎ KeySet (S.form s.old) (S.image s.old) (S.image s.new) (key_at (S.form s.old).order (S.image s.old) p.off) None
+        (without p.off (chain_of (S.form s.old) (S.image s.old) (home (S.form s.old) (key_at (S.form s.old).order (S.image s.old) p.off)))) [] hands (hand_at p ∷ hands)) }
     ensures hand { IfOk result (λ h. h ≡ hand_at p) }
     ensures written { IsTrue S.tells → OldOrWord (S.form s.old).order (S.image s.old) p.before p.rec.next (S.image s.new) }
     ensures size { S.size s.new ≡ S.size s.old }
@@ -82,8 +87,8 @@ pub fn unlink<S: Space>(s: &mut S, p: Place) -> Result<Hand, Io>
 
 /// Takes the dead record of a place out of its chain, and answers it as a hand. The map stays as it is.
 ///
-/// It writes the word that led to the record, and nothing into the record. `Io` where the disk failed: then the word
-/// leads to the record or past it.
+/// It writes the word that led to the record, and nothing into the record. `Io` where the disk failed: then the file is
+/// as it was, or as the call makes it.
 pub fn purge<S: Space>(s: &mut S, p: Place) -> Result<Hand, Io>
     requires within { StandsWithin p (S.size s.old) }
     requires dead { p.rec.magic ≡ USED → ⊥ }
@@ -91,6 +96,10 @@ pub fn purge<S: Space>(s: &mut S, p: Place) -> Result<Hand, Io>
     ensures purged { IfOk result (λ h. IsTrue S.tells → (hands : List HandPair) → AcceptWith (S.form s.old) (S.image s.old) hands
         → (at : IsPlace (S.form s.old) (S.image s.old) p)
         → Purged (S.form s.old) (S.image s.old) (S.image s.new) at.chain (without p.off (chain_of (S.form s.old) (S.image s.old) at.chain)) hands (h ∷ hands)) }
+    ensures stopped { OnErr result (IsTrue S.tells → (hands : List HandPair) → AcceptWith (S.form s.old) (S.image s.old) hands
+        → (at : IsPlace (S.form s.old) (S.image s.old) p)
+        → (S.image s.new ≡ S.image s.old)
+        ⊎ Purged (S.form s.old) (S.image s.old) (S.image s.new) at.chain (without p.off (chain_of (S.form s.old) (S.image s.old) at.chain)) hands (hand_at p ∷ hands)) }
     ensures hand { IfOk result (λ h. h ≡ hand_at p) }
     ensures written { IsTrue S.tells → OldOrWord (S.form s.old).order (S.image s.old) p.before p.rec.next (S.image s.new) }
     ensures size { S.size s.new ≡ S.size s.old }
