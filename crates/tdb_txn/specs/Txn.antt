@@ -2,7 +2,7 @@
 use Rattle.std.specs.Prelude.{◌≡◌, ℕ, List, [], ◌∷◌, Bool, if◌then◌else◌}
 use Rattle.tdb_space.specs.Form.{Form, form_in}
 use Rattle.tdb_space.specs.Spare.{Spare}
-use Rattle.tdb_space.specs.Spare.Spare.{bounded}
+use Rattle.tdb_space.specs.Spare.Spare.{bounded, without_bound}
 use Rattle.tdb_txn.specs.Pages.{contents}
 use Rattle.tdb_txn.specs.Stock.{page_list, pages_left}
 use Rattle.tdb_txn.specs.declared.page.Page.{Page}
@@ -64,3 +64,13 @@ pub record OnlyPages (old new : Txn) : Type 0 where
   pub form : txn_form new ≡ txn_form old
   pub depth : txn_depth new ≡ txn_depth old
   pub doomed : txn_doomed new ≡ txn_doomed old
+
+-- all of it but its room is as it was
+pub record SameButRoom (old new : Txn) : Type 0 where
+  pub pages : txn_pages new ≡ txn_pages old
+  pub only : OnlyPages old new
+
+-- what is spare once the pages that were made ready are given back: growths alone, which take no memory
+abbrev pub growths_alone : Spare → Spare
+growths_alone without_bound = without_bound
+growths_alone (bounded writes bytes reach) = bounded 0 0 reach

@@ -24,7 +24,8 @@ impl Txn {
     ghost use Rattle.tdb_txn.specs.Txn.{txn_start, txn_size, txn_image};
 
     /// Plans its commit into the undo area that the file has in an extent, with room for the content of these runs, and
-    /// makes the file as long as the transaction has it. A stop leaves a file that opens to the map before the commit.
+    /// makes the file as long as the transaction has it. It gives back the pages that were made ready and aren't used.
+    /// A stop leaves a file that opens to the map before the commit.
     pub(crate) fn keep<D: Disk>(
         self,
         d: &mut D,
@@ -46,6 +47,8 @@ impl Txn {
         ensures cause { HasCause (D.faults d.old) (D.faults d.new) result }
         ensures syncs { D.syncs d.new ≡ D.syncs d.old }
     {
+        let mut pages = self.pages;
+        pages.shrink_to_fit();
         let plan = Plan {
             header: self.header,
             area: area.0,
@@ -54,14 +57,15 @@ impl Txn {
             new_length: self.size as u32,
             file_length: self.size as u32,
             runs,
-            pages: self.pages,
+            pages,
         };
         Ok(keep_area(d, plan)?)
     }
 
     /// Plans its commit into a new undo area of `length` bytes, with its header, behind what the transaction has of the
-    /// file, places that area, and makes the old one zero, where there is one. A stop leaves a file that opens to the
-    /// map before the commit. It takes three syncs, and two more where the file has an undo area.
+    /// file, places that area, and makes the old one zero, where there is one. It gives back the pages that were made
+    /// ready and aren't used. A stop leaves a file that opens to the map before the commit. It takes three syncs, and
+    /// two more where the file has an undo area.
     pub(crate) fn place<D: Disk>(self, d: &mut D, length: u32, runs: Runs) -> Result<Planned, Io>
         requires sized { D.size d.old ≡ txn_start self }
         requires heads { 48 ≤ txn_start self }
@@ -81,6 +85,8 @@ impl Txn {
         ensures cause { HasCause (D.faults d.old) (D.faults d.new) result }
         ensures syncs { OnOk result (RoseBy 3 (D.syncs d.old) (D.syncs d.new) ⊎ RoseBy 5 (D.syncs d.old) (D.syncs d.new)) }
     {
+        let mut pages = self.pages;
+        pages.shrink_to_fit();
         let area = self.size as u32;
         let plan = Plan {
             header: self.header,
@@ -90,7 +96,7 @@ impl Txn {
             new_length: area,
             file_length: area + length,
             runs,
-            pages: self.pages,
+            pages,
         };
         Ok(place_area(d, plan)?)
     }

@@ -160,4 +160,14 @@ impl Pages {
         }
         Ok(())
     }
+
+    /// Gives back the stock, and the room for it in the list.
+    pub(crate) fn shrink_to_fit(&mut self)
+        ensures list { page_list self.new ≡ page_list self.old }
+        ensures left { pages_left self.new ≡ 0 }
+    {
+        self.stock.clear();
+        self.stock.shrink_to_fit();
+        self.list.shrink_to_fit();
+    }
 }

@@ -33,7 +33,7 @@ pub struct Txn {
 }
 
 impl Txn {
-    ghost use Rattle.tdb_txn.specs.Txn.{txn_pages, txn_start, txn_size, txn_image, txn_spare, txn_form, txn_depth, txn_doomed, SameView};
+    ghost use Rattle.tdb_txn.specs.Txn.{txn_pages, txn_left, txn_start, txn_size, txn_image, txn_spare, txn_form, txn_depth, txn_doomed, growths_alone, SameButRoom, SameView};
 
     /// Starts a transaction on a file with this header, after a sync of the file. It reads no byte and takes no memory.
     /// Fails only where the disk fails.
@@ -158,6 +158,18 @@ impl Txn {
         self.bytes = bytes;
         self.reach = reach;
         Ok(())
+    }
+
+    /// Gives back the memory that was made ready for writes and isn't used. Nothing else changes. The next command that
+    /// writes makes room anew, by an allocation for each page, so this pays only where a transaction rests.
+    pub fn shrink_to_fit(&mut self)
+        ensures same { SameButRoom self.old self.new }
+        ensures spare { txn_spare self.new ≡ growths_alone (txn_spare self.old) }
+        ensures left { txn_left self.new ≡ 0 }
+    {
+        self.writes = 0;
+        self.bytes = 0;
+        self.pages.shrink_to_fit();
     }
 
     /// Makes the file longer, by zeros.

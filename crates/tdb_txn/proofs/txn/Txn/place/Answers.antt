@@ -9,16 +9,16 @@ pub returns-in_err-place_area-clause-stops : goal.returns-in_err-place_area-clau
 returns-in_err-place_area-clause-stops g c told quiet x may =
     let r = seen (g.D.Disk.history c.args.d.now) in
     let long = sym (g.met.D.Disk.told_size c.args.d.now told ∙ c.requires.sized) in
-    c.place_area.ensures.stops told x (txn_image c.args.self r) quiet (places c.args.self _ r x may c.requires.fits refl long long refl refl refl)
+    c.place_area.ensures.stops told x (txn_image c.args.self r) quiet (places c.args.self _ r x may c.requires.fits refl long long refl refl c.shrink_to_fit.ensures.list)
 
 pub returns-clause-stops : goal.returns-clause-stops
 returns-clause-stops g c told quiet x may =
     let r = seen (g.D.Disk.history c.args.d.now) in
     let long = sym (g.met.D.Disk.told_size c.args.d.now told ∙ c.requires.sized) in
-    c.place_area.ensures.stops told x (txn_image c.args.self r) quiet (places c.args.self _ r x may c.requires.fits refl long long refl refl refl)
+    c.place_area.ensures.stops told x (txn_image c.args.self r) quiet (places c.args.self _ r x may c.requires.fits refl long long refl refl c.shrink_to_fit.ensures.list)
 
 pub returns-clause-planned : goal.returns-clause-planned
 returns-clause-planned g c told quiet x may =
     let r = seen (g.D.Disk.history c.args.d.now) in
     let long = sym (g.met.D.Disk.told_size c.args.d.now told ∙ c.requires.sized) in
-    c.in_ok-place_area.ensures.planned told x (txn_image c.args.self r) quiet (places c.args.self _ r x may c.requires.fits refl long long refl refl refl)
+    c.in_ok-place_area.ensures.planned told x (txn_image c.args.self r) quiet (places c.args.self _ r x may c.requires.fits refl long long refl refl c.shrink_to_fit.ensures.list)
