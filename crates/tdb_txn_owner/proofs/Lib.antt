@@ -35,3 +35,4 @@ pub mod Wanted
 pub mod RecordsHeld
 pub mod Gates
 pub mod HolderTurns
+pub mod ButRoom

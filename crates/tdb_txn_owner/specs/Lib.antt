@@ -12,3 +12,4 @@ pub mod Prepared
 pub mod Wanting
 pub mod Holders
 pub mod Syncs
+pub mod ButRoom

@@ -12,6 +12,7 @@ mod prepared;
 mod preparing;
 mod reads;
 mod refusing;
+mod shrinking;
 mod stage;
 mod starting;
 mod txn_owner;

@@ -19,6 +19,7 @@ ghost use Rattle.tdb_commands.specs.declared.options.Options.{Options};
 ghost use Rattle.tdb_txn_owner.specs.declared.stage.Stage.{Stage};
 ghost use Rattle.tdb_txn_owner.specs.declared.stage.Stage.TheVariants as Stage;
 ghost use Rattle.tdb_txn_owner.specs.declared.wanting.Wants.TheVariants as Wants;
+ghost use Rattle.tdb_txn_owner.specs.ButRoom.{stage_left, HolderButRoom};
 ghost use Rattle.tdb_txn_owner.specs.Ends.{task_of, IsBlocked};
 ghost use Rattle.tdb_commands.specs.Short.{IsShortCommand};
 ghost use Rattle.tdb_txn_owner.specs.Holders.{is_idle, left_stage, stage_depth, stage_gate, with_command, HolderTurned, StageMayLeave};
@@ -290,6 +291,15 @@ impl TxnOwner {
             Stage::Preparing(_) => Ok(Command::Prepare),
             Stage::Open { .. } | Stage::Prepared { .. } => unreachable!(),
         }
+    }
+
+    /// Gives back the memory that was made ready for the next commands of its transaction. Nothing else changes. The
+    /// next command makes room anew, by an allocation for each page.
+    pub fn shrink_to_fit(&mut self)
+        ensures room { HolderButRoom self.old self.new }
+        ensures left { stage_left self.new.stage ≡ 0 }
+    {
+        self.stage.shrink_to_fit();
     }
 
     /// Gives it up, with no call on the disk.

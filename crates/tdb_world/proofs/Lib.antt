@@ -40,3 +40,4 @@ pub mod Courses
 pub mod Ended
 pub mod Loaded
 pub mod OverFiles
+pub mod ButRoom

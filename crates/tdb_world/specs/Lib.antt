@@ -13,3 +13,4 @@ pub mod Loaded
 pub mod Histories
 pub mod OverFile
 pub mod OverFiles
+pub mod ButRoom

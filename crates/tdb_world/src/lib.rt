@@ -12,6 +12,7 @@ mod dying;
 mod laws;
 mod loading;
 mod others;
+mod shrinking;
 mod turning;
 mod undoing;
 mod world;

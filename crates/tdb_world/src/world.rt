@@ -4,6 +4,7 @@ ghost use Rattle.tdb_disk.specs.Count.{HasCause};
 ghost use Rattle.tdb_disk.specs.History.{seen};
 ghost use Rattle.tdb_world.specs.OverFile.{FitsFile, IsDiskOf};
 
+mod memory;
 mod openers;
 mod opening;
 mod plays;
