@@ -8,3 +8,4 @@ pub mod Parts
 pub mod Groups
 pub mod Each
 pub mod Calls
+pub mod ButRoom

@@ -67,7 +67,7 @@ pub record SoFar (tells : Bool) (a b : OverFile) (k : ℕ) : Type 0 where
 pub keeps_itself : (w : OverFile) → KeepsForm w w
 keeps_itself w = record { header = refl; options = refl }
 
-keeps_on : (a b z : OverFile) → KeepsForm a b → KeepsForm b z → KeepsForm a z
+pub keeps_on : (a b z : OverFile) → KeepsForm a b → KeepsForm b z → KeepsForm a z
 keeps_on a b z A B = record { header = B.header ∙ A.header; options = B.options ∙ A.options }
 
 -- A turn in the middle of a command.

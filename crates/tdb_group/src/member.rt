@@ -44,7 +44,7 @@ pub(crate) fn start<D: Disk>(world: &mut World<D>) -> Result<(), FileStop>
 }
 
 /// Does a command in the transaction.
-pub(crate) fn apply<D: Disk>(
+fn do_on_key<D: Disk>(
     alloc: Global,
     world: &mut World<D>,
     command: Command,
@@ -63,6 +63,25 @@ pub(crate) fn apply<D: Disk>(
         Some(reply) => Ok(reply),
         None => Ok(Reply::Memory),
     }
+}
+
+/// Does a command in the transaction, and gives back the memory that was made ready for it and isn't used: the file
+/// rests beside others.
+pub(crate) fn apply<D: Disk>(
+    alloc: Global,
+    world: &mut World<D>,
+    command: Command,
+) -> Result<Reply, FileStop>
+    requires unspent { world.old.spent ≡ false }
+    requires on_key { IsOnKey command }
+    requires short { IsShortCommand command }
+    ensures ran { Ran world.old world.new result }
+    ensures applied { Applied D.tells (law_command command) world.old world.new result }
+    ensures fault { IfErr result (λ e. e ≡ StopIs.Io) }
+{
+    let answer = do_on_key(alloc, world, command);
+    world.shrink_to_fit();
+    answer
 }
 
 /// Tells the last log that the file grew, where it did.
