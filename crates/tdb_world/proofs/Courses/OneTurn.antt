@@ -28,7 +28,11 @@ use Rattle.tdb_world.specs.States.IsStateOf.{of_whole, of_stale}
 use Rattle.tdb_world.specs.Steps.{HasCommand, IsAmong, TurnLeads, UndoLeads}
 use Rattle.tdb_world.specs.Steps.HasCommand.{by_aside, by_start, by_job}
 use Rattle.tdb_world.specs.Steps.IsAmong.{among_all, among_others}
+use Rattle.tdb_world.specs.Died.{IsReadAs}
+use Rattle.tdb_world.specs.Stops.{IsSafe}
+use Rattle.tdb_world.proofs.Reopening.{state_reopens}
 use Rattle.tdb_world.specs.Courses.Led.{Moment, moment, IsStateAt, Led}
+use Rattle.tdb_world.specs.Courses.Stops.{ToldWhereTaken}
 use Rattle.tdb_world.specs.Courses.Turns.{IsToldOf, Never, TakesOrClears}
 use Rattle.tdb_world.proofs.Courses.Leading.{growth_grows, led_join, led_fault}
 use Rattle.tdb_world.proofs.Courses.Courses.{clear_takes, clear_last}
@@ -177,6 +181,14 @@ module _ (tells : Bool) (w v : Whole) (h g : History) (from before who : ℕ) (c
     told = λ told state is. (let T = takes [] (grows_not refl) told state is in (T.0, λ mine. inr (is_step turn, T.2 mine)));
     rose = rose;
   }
+
+  -- so it is told, though it isn't answered
+  pub took_told : v.openers.header ≡ w.openers.header → (z : History) → z ≡ g → new ≡ old ++ Lines.Took who command turn ∷ [] → IsTrue tells → (state : State) → IsStateOf w h state → IsSafe (form_at w) g
+      → ToldWhereTaken (form_at w) state (law_opener who) (law_command command) z old new
+  took_told header z same lines told state is safe =
+      let T = takes [] (grows_not refl) told state is in
+      let reads : IsReadAs (form_at w) (seen g) T.0 = subst (λ k. IsReadAs (form_in k) (seen g) T.0) header (state_reopens v g T.0 T.1) in
+      inr (T.0, is_step turn, Lines.Took who command turn ∷ [], lines, T.2, subst (λ u. IsReadAs (form_at w) (seen u) T.0) (sym same) reads, subst (IsSafe (form_at w)) (sym same) safe)
 
 -- An undo that failed, and one that a turn follows.
 pub undo_failed : {U : Type 0} (tells : Bool) (old new : Moment) (who : ℕ) (e : RunFault) → Led {V = U} tells old new (Err e) (λ state _. Clears (form_at old.world) state) Never Nothing

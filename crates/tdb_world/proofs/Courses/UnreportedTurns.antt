@@ -7,7 +7,7 @@ use Rattle.tdb_law.specs.Plays.Play.{TakeTurn}
 use Rattle.tdb_locks.specs.declared.turn.Turn.{Turn}
 use Rattle.tdb_log.specs.Logs.{Logged}
 use Rattle.tdb_log.specs.declared.log.LogRefusal.{LogRefusal}
-use Rattle.tdb_commands.specs.InLaw.{law_opener, law_command, law_lines}
+use Rattle.tdb_commands.specs.InLaw.{law_opener, law_command}
 use Rattle.tdb_commands.specs.declared.command.Command.{Command}
 use Rattle.tdb_commands.specs.declared.line.Line.{Line}
 use Rattle.tdb_commands.specs.declared.line.Line.TheVariants.{Took}
@@ -30,7 +30,8 @@ use Rattle.tdb_world.proofs.Courses.Leading.{led_whole, led_fault}
 use Rattle.tdb_world.proofs.Courses.OneTurn.{turn_after, undo_failed}
 use Rattle.tdb_world.proofs.Courses.Running.{heard_behind}
 use Rattle.tdb_world.proofs.Courses.StoppedTurns.{TurnKeeps, TurnStops, UndoKeeps, UndoStops, turn_stops, undo_stops}
-use Rattle.tdb_world.proofs.Courses.Stopping.{leads_one, stops_fault, stops_still, stops_whole}
+use Rattle.tdb_world.proofs.Courses.StoppedPlays.{answered_stops}
+use Rattle.tdb_world.proofs.Courses.Stopping.{stops_fault, stops_whole}
 
 -- what logs heard of all lines of a moment, behind one without lines
 heard_all : {V : Type 0} (tells : Bool) (old new : Moment) (before after : List Logged) (answer : Result (Result V LogRefusal) RunFault) → old.lines ≡ [] → HeardBy before new.lines after answer
@@ -48,8 +49,7 @@ nothing_to_do tells w h size faults who line logs W said short heard told =
     record {
       lines = line ∷ [];
       led = L;
-      stops = stops_still tells old new (Ok (Ok None)) L.added refl L.lines
-          (λ told state is. let J = L.told told state is in (J.0, J.1, leads_one (form_at w) state J.0 (TakeTurn (law_opener who)) (law_lines L.added) J.2));
+      stops = stops_whole tells old new tt (Ok None) (answered_stops tells w h size faults (TakeTurn (law_opener who)) line [] (line ∷ []) said (Ok tt) refl tt);
       heard = heard_all {V = Option Turn} tells old new logs logs (Ok (Ok None)) refl heard;
       told = told;
     }
@@ -117,12 +117,13 @@ module _ (tells : Bool) (old mid new : Moment) (who : ℕ) (command : Command) (
   taken_stops measured v B kept =
       let more = is_step measured.turn in
       stops_whole tells old (Behind (Ok measured)) more v
-      (turn_stops tells old (with_lines mid front) (Behind (Ok measured)) (law_opener who) (law_command command) mine undone A (Ok more) (step_led measured B) cleared safely turned kept)
+      (turn_stops tells old (with_lines mid front) (Behind (Ok measured)) (law_opener who) (law_command command) mine undone A (Ok more) (step_led measured B) cleared safely turned kept tt)
 
   fault_stops : {V : Type 0} (e : RunFault) → TurnLed (Err e) → StopsLed {V = V} tells old (Behind (Err e)) (Err e)
   fault_stops e B =
       stops_fault {V = Bool} tells old (Behind (Err e)) e
-      (turn_stops tells old (with_lines mid front) (Behind (Err e)) (law_opener who) (law_command command) mine undone A (Err e) (failed_step e B) cleared safely turned tt)
+      (turn_stops tells old (with_lines mid front) (Behind (Err e)) (law_opener who) (law_command command) mine undone A (Err e) (failed_step e B) cleared safely turned tt
+      (λ told state is safe never. inl (append-nil front)))
 
   -- it was taken
   taken : (measured : MeasuredTurn) (before after : List Logged) (noted : Result (Option Turn) LogRefusal) → TurnLed (Ok measured) → Kept → HeardBy before (front ++ turn_lines who command (Ok measured)) after (Ok noted)

@@ -1,5 +1,5 @@
 //! One turn of an opener, and what is told of it.
-ghost use Rattle.std.specs.Prelude.{◌≡◌, ◌≤◌, ◌+◌, ℕ, List, Some, true, false, IsTrue, IfOk, OnOk};
+ghost use Rattle.std.specs.Prelude.{◌≡◌, ◌≤◌, ◌+◌, ℕ, List, Some, true, false, IsTrue, IfOk, OnOk, OnErr};
 ghost use Rattle.tdb_disk.specs.Count.{HasCause, HasCauseOf};
 ghost use Rattle.tdb_disk.specs.History.{History, seen};
 ghost use Rattle.tdb_disk.specs.Stop.{LeavesOnly};
@@ -13,7 +13,7 @@ ghost use Rattle.tdb_world.specs.States.{IsStateOf};
 ghost use Rattle.tdb_world.specs.Steps.{HasCommand};
 ghost use Rattle.tdb_world.specs.Stops.{IsChanging, IsSafe, OpensToState, TurnMayLeave};
 ghost use Rattle.tdb_world.specs.Courses.Led.{moment, Led};
-ghost use Rattle.tdb_world.specs.Courses.Stops.{StopsLed};
+ghost use Rattle.tdb_world.specs.Courses.Stops.{StopsLed, ToldWhereTaken};
 ghost use Rattle.tdb_world.specs.Courses.Turns.{IsToldOf, Never, TakesOrClears};
 
 use crate::Undone;
@@ -114,6 +114,8 @@ fn take_turn<D: Disk>(
         → LeavesOnly (D.history d.old) (D.history d.new) (TurnMayLeave f state (law_opener who)) }
     ensures safe { OnOk result (IsTrue D.tells → (state : State) → let f = form_at world.old in IsStateOf world.old (D.history d.old) state → IsSafe f (D.history d.old)
         → (IsChanging f state (law_opener who) → ⊥) → IsSafe f (D.history d.new)) }
+    ensures told { OnErr result (IsTrue D.tells → (state : State) → let f = form_at world.old in IsStateOf world.old (D.history d.old) state → IsSafe f (D.history d.old)
+        → (IsChanging f state (law_opener who) → ⊥) → ToldWhereTaken f state (law_opener who) (law_command command) (D.history d.new) report.old.lines report.new.lines) }
     ensures busy { IfOk result (λ more. more ≡ true → HasCommand world.new who) }
 {
     let turn = world.turn(d, who)?;

@@ -10,7 +10,7 @@ use Rattle.tdb_openers.specs.Played.{growth, is_step}
 use Rattle.tdb_world.specs.Steps.{TurnLeads}
 use Rattle.tdb_world.specs.Stops.{IsSafe}
 use Rattle.tdb_world.specs.Whole.{form_at, WorldFits}
-use Rattle.tdb_world.proofs.Courses.OneTurn.{failed_led, took_io, took_led}
+use Rattle.tdb_world.proofs.Courses.OneTurn.{failed_led, took_io, took_led, took_told}
 use Rattle.tdb_world.proofs.Courses.StoppedTurns.{TurnStops}
 use Rattle.tdb_world.proofs.course.turning.take_turn.Goals as goal
 
@@ -70,6 +70,21 @@ returns-in_err-to-clause-stops g c =
 pub returns-clause-stops : goal.returns-clause-stops
 returns-clause-stops g c =
     subst (TurnStops g.D.Disk.tells (form_at c.args.world.now) c.args.world.now (law_opener c.args.who) (g.D.Disk.history c.args.d.now)) (sym c.length_of.ensures.history) c.turn.ensures.stops
+
+-- nothing was told of the turn; or it was, and only the length couldn't be had behind it
+pub returns-in_err-turn-clause-told : goal.returns-in_err-turn-clause-told
+returns-in_err-turn-clause-told g c =
+    let q = err_from_is_err_and c.from_residual.result c.from_residual.ensures.1 in
+    rw (q.1) (λ tells state is safe never. inl refl)
+
+pub returns-in_err-to-clause-told : goal.returns-in_err-to-clause-told
+returns-in_err-to-clause-told g c =
+    let q = err_from_is_err_and c.from_residual-in_err-to.result c.from_residual-in_err-to.ensures.1 in
+    rw (q.1)
+    (λ tells state is safe never.
+    took_told g.D.Disk.tells c.args.world.now c.turn.new.self (g.D.Disk.history c.args.d.now) (g.D.Disk.history c.turn.new.d) (g.D.Disk.size c.args.d.now) (g.D.Disk.faults c.args.d.now) c.args.who c.args.command c.in_ok-turn.turn
+    c.args.report.now.lines c.put_line.new.report.lines c.in_ok-turn.ensures.turned c.in_ok-turn.ensures.header (g.D.Disk.history c.length_of.new.d) c.length_of.ensures.history c.put_line.ensures.lines
+    tells state is (c.in_ok-turn.ensures.safe tells state is safe never))
 
 pub returns-clause-safe : goal.returns-clause-safe
 returns-clause-safe g c told state is safe never = subst (IsSafe (form_at c.args.world.now)) (sym c.length_of.ensures.history) (c.in_ok-turn.ensures.safe told state is safe never)

@@ -83,4 +83,4 @@ returns-clause-stops g c =
     c.take_turn.result c.take_turn.ensures.led
     (subst (λ u. UndoStops g.D.Disk.tells w u (g.D.Disk.history c.clear_gate.new.d)) c.before_turn.ensures.history c.clear_gate.ensures.stops)
     (subst (λ u. UndoKeeps g.D.Disk.tells w u (g.D.Disk.history c.clear_gate.new.d)) c.before_turn.ensures.history c.in_ok-from.ensures.safe)
-    c.take_turn.ensures.stops c.take_turn.ensures.safe
+    c.take_turn.ensures.stops c.take_turn.ensures.safe c.take_turn.ensures.told
