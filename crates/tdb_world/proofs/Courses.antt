@@ -3,6 +3,7 @@ pub mod Leading
 pub mod Stopping
 pub mod Standings
 pub mod Finishing
+pub mod EndedFiles
 pub mod Courses
 pub mod Coming
 pub mod Answered

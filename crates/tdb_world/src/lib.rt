@@ -18,7 +18,9 @@ mod undoing;
 mod world;
 
 pub use crate::all_openers::JoinRefusal;
-pub use crate::course::laws::{prepared_commits_end, report_is_lawful, steps_tell_changes};
+pub use crate::course::laws::{
+    ended_files_open, prepared_commits_end, report_is_lawful, steps_tell_changes,
+};
 pub use crate::creating::CreateRefusal;
 pub use crate::laws::{
     commits_sync_seldom, prepared_commits_go_on, states_are_read, transactions_are_safe,

@@ -1,7 +1,8 @@
 -- The laws of the report of plays.
-use Rattle.std.specs.Prelude.{ℕ, List, ◌++◌}
-use Rattle.tdb_disk.specs.History.{History}
+use Rattle.std.specs.Prelude.{ℕ, List, [], ◌++◌}
+use Rattle.tdb_disk.specs.History.{History, seen}
 use Rattle.tdb_space.specs.Form.{Form}
+use Rattle.tdb_space.specs.Opening.{Opens}
 use Rattle.tdb_law.specs.Beginning.{IsLoaded, beginning}
 use Rattle.tdb_law.specs.Lines.{Line as LawLine, IsLawful}
 use Rattle.tdb_law.specs.Openers.{Options as LawOptions}
@@ -22,3 +23,7 @@ ReportIsLawful = (f : Form) (options : LawOptions) (old new : State) (plays : Li
 -- what isn't done in a world isn't done in its states
 abbrev pub EndsAlike : Type 0
 EndsAlike = (w : Whole) (img : List ℕ) (size : ℕ) (h : History) (state : State) (lines : List Line) → WorldFits w img size → IsStateOf w h state → IsEnd w lines → EndsWith state lines
+
+-- the file of a world in which no opener has a command that isn't done can be opened
+abbrev pub EndedFileOpens : Type 0
+EndedFileOpens = (w : Whole) (h : History) (state : State) → IsStateOf w h state → EndsWith state [] → Opens (seen h)

@@ -1,6 +1,6 @@
 //! The law of reports of a world.
 ghost use Rattle.tdb_world.specs.Courses.Changes.{StepsTellChanges};
-ghost use Rattle.tdb_world.specs.Courses.Laws.{ReportIsLawful, EndsAlike};
+ghost use Rattle.tdb_world.specs.Courses.Laws.{ReportIsLawful, EndedFileOpens, EndsAlike};
 ghost use Rattle.tdb_world.specs.Courses.Prepared.{PreparedCommitsEnd};
 
 /// The report of plays from a world just loaded is lawful, with the lines of the commands behind it that aren't done;
@@ -9,6 +9,12 @@ ghost use Rattle.tdb_world.specs.Courses.Prepared.{PreparedCommitsEnd};
 pub fn report_is_lawful()
     ensures report { ReportIsLawful }
     ensures ends { EndsAlike }
+{}
+
+/// Where no command is unfinished the file of a world can be opened, whatever has been done to it. The law is over all
+/// worlds and histories; the function does nothing.
+pub fn ended_files_open()
+    ensures law { EndedFileOpens }
 {}
 
 /// A report without a step of a change or of a command on a cursor changes nothing outside a transaction. The law is
