@@ -109,7 +109,7 @@ pub done_too : (start new : Scene) (answer other : Option SessionFault) (one two
     → ((lines : List Line) → HeardSo answer start.logs lines new.logs → HeardSo other start.logs lines new.logs) → IsToo one two
     → IsToo (DoneBetween start new answer one) (DoneBetween start new other two)
 done_too start new answer other one two moved told too f old after lines text (done, stops, heard) =
-    (too f old after lines text done, λ safe calm. (let S = stops safe calm in record { stops = S.stops; safe = moved (IsSafe f new.over.history) S.safe }), told lines heard)
+    (too f old after lines text done, λ safe calm. (let S = stops safe calm in record { stops = S.stops; stays = S.stays; safe = moved (IsSafe f new.over.history) S.safe }), told lines heard)
 
 done_follows : (start mid new : Scene) (answer : Option SessionFault) (first next both : Deed) → LeadsOn first → Follows first next both
     → Follows (DoneBetween start mid None first) (DoneBetween mid new answer next) (DoneBetween start new answer both)

@@ -33,7 +33,7 @@ done_at : (start : Scene) (b : OverFile) (w now : List ℕ) (logs : List Logged)
     → ((lines : List Line) → HeardSo answer start.logs lines logs → HeardSo other start.logs lines logs) → IsToo one two
     → IsToo (DoneBetween start (scene b w logs) answer one) (DoneBetween start (scene b now logs) other two)
 done_at start b w now logs answer other one two moved told too f old after lines text (done, stops, heard) =
-    (too f old after lines text done, λ safe calm. (let S = stops safe calm in record { stops = S.stops; safe = moved (IsSafe f b.history) S.safe }), told lines heard)
+    (too f old after lines text done, λ safe calm. (let S = stops safe calm in record { stops = S.stops; stays = S.stays; safe = moved (IsSafe f b.history) S.safe }), told lines heard)
 
 -- what was done, where another text was written, of which what is told follows
 module _ (f : Form) (told : Bool) (IsLeft : State → Type 0) (old : State) (before w now : List ℕ) where

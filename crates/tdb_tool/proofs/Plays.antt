@@ -76,7 +76,7 @@ module _ (disk_tells told : Bool) (a b : OverFile) (first lines : List Line) (em
         (let r = taken.led.told tells state is in
         let p = begins form state r.0 taken.led.added r.1 in
         let stops : IsSafe form a.history → IsTransacted form state (law_lines taken.led.added) → StopsBetween Before (After written) (Some F.Device) form state taken.led.added
-        = λ safe calm. (let S = taken.stops tells state taken.led.added is taken.led.lines safe calm in record { stops = S.stops; safe = tt }) in
+        = λ safe calm. (let S = taken.stops tells state taken.led.added is taken.led.lines safe calm in record { stops = S.stops; stays = S.stays; safe = tt }) in
         (r.0, (taken.led.added, p.0, (p.1, stops, taken.heard tells state taken.led.added is taken.led.lines), λ out. (0, omega arith, sym (append-nil written)))));
     rose = λ tells state is. taken.led.rose tells state is;
   }
@@ -90,7 +90,7 @@ module _ (disk_tells told : Bool) (a b : OverFile) (first lines : List Line) (em
         (let r = taken.led.told tells state is in
         let p = begins form state r.0 taken.led.added (inl r.2) in
         let stops : IsSafe form a.history → IsTransacted form state (law_lines taken.led.added) → StopsBetween Before (After written) (Some F.Memory) form state taken.led.added
-        = λ safe calm. (let S = taken.stops tells state taken.led.added is taken.led.lines safe calm in record { stops = S.stops; safe = S.left.3 }) in
+        = λ safe calm. (let S = taken.stops tells state taken.led.added is taken.led.lines safe calm in record { stops = S.stops; stays = S.stays; safe = S.left.3 }) in
         (r.0, r.1, (taken.led.added, p.0, (p.1, stops, taken.heard tells state taken.led.added is taken.led.lines), λ out. (0, omega arith, sym (append-nil written)))));
     rose = λ tells state is. tt;
   }
@@ -108,7 +108,7 @@ module _ (disk_tells told : Bool) (a b : OverFile) (first lines : List Line) (em
 
     stops_at : IsTrue disk_tells → (state : State) → IsStateAt Before state → (now : List ℕ) → IsSafe form a.history → IsTransacted form state (law_lines lines)
         → StopsBetween Before (After now) None form state lines
-    stops_at tells state is now safe calm = let S = taken.stops tells state lines is all_lines safe calm in record { stops = S.stops; safe = S.left.3 }
+    stops_at tells state is now safe calm = let S = taken.stops tells state lines is all_lines safe calm in record { stops = S.stops; stays = S.stays; safe = S.left.3 }
 
     -- and no log refused, or one did, as is told by its answer
     heard_as : (told_so : Result (Unit {0}) LogRefusal) → answer ≡ told_so → IsTrue disk_tells → (state : State) → IsStateAt Before state → HeardBy logs lines heard (Ok told_so)
@@ -148,7 +148,7 @@ module _ (disk_tells told : Bool) (a b : OverFile) (first lines : List Line) (em
       broke fault moved tells state is so =
           let r = gave tells state is now in
           let stops : IsSafe form a.history → IsTransacted form state (law_lines lines) → StopsBetween Before (After now) (Some fault) form state lines
-          = λ safe calm. (let S = stops_at tells state is now safe calm in record { stops = S.stops; safe = moved (IsSafe form b.history) S.safe }) in
+          = λ safe calm. (let S = stops_at tells state is now safe calm in record { stops = S.stops; stays = S.stays; safe = moved (IsSafe form b.history) S.safe }) in
           (r.0, r.1, (makes state r.0 r.2, stops, so))
 
       -- memory was wanting for its text, of which a front was written

@@ -2,8 +2,7 @@
 use Rattle.std.proofs.Common.{◌≡◌, ℕ, List, [], ◌++◌, Option, None, sym, subst}
 use Rattle.std.proofs.lemmas.List.{map-append}
 use Rattle.tdb_disk.specs.History.{History, seen}
-use Rattle.tdb_disk.specs.Stop.{Quiet, LeavesOnly}
-use Rattle.tdb_disk.proofs.Runs.{leaves_join, leaves_weaker}
+use Rattle.tdb_disk.specs.Stop.{Quiet}
 use Rattle.tdb_space.specs.Accepted.{AcceptWith}
 use Rattle.tdb_space.specs.Form.{Form}
 use Rattle.tdb_space.specs.Undoing.{Reopens}
@@ -15,8 +14,8 @@ use Rattle.tdb_commands.specs.InLaw.{law_line, law_lines}
 use Rattle.tdb_commands.specs.declared.line.Line.{Line}
 use Rattle.tdb_world.specs.Stops.{IsSafe}
 use Rattle.tdb_world.specs.Whole.{form_at}
-use Rattle.tdb_world.specs.Courses.Stops.{Leads, IsTransacted, OpensOnTheWay}
-use Rattle.tdb_world.proofs.Courses.Stopping.{passes_front, passes_behind, safe_opens, opens_first}
+use Rattle.tdb_world.specs.Courses.Stops.{Leads, IsTransacted, OpensAndStays}
+use Rattle.tdb_world.proofs.Courses.Stopping.{both_open, nothing_stays, opens_first, passes_behind, passes_front, safe_opens}
 use Rattle.tdb_tool.specs.declared.fault.SessionFault.{SessionFault}
 use Rattle.tdb_world.specs.Courses.Scene.{Scene, IsStateAt}
 use Rattle.tdb_tool.specs.Serving.{Deed, StopsBetween}
@@ -35,6 +34,7 @@ accepted_safe f h accepted quiet c left =
 pub stops_nowhere : (start : Scene) (state : State) → IsStateAt start state → IsSafe (form_at start.over.world) start.over.history → StopsBetween start start None (form_at start.over.world) state []
 stops_nowhere start state is safe = record {
   stops = opens_first (form_at start.over.world) start.over.history start.over.history state 0 [] (safe_opens start.over.world start.over.history state is safe);
+  stays = nothing_stays (form_at start.over.world) start.over.history start.over.history state;
   safe = safe;
 }
 
@@ -46,13 +46,6 @@ module _ (f : Form) (start mid new : Scene) (answer : Option SessionFault) (old 
   abbrev two : List LawLine
   two = law_lines rest
 
-  both_stop : LeavesOnly start.over.history mid.over.history (OpensOnTheWay f old one) → LeavesOnly mid.over.history new.over.history (OpensOnTheWay f at two)
-      → LeavesOnly start.over.history new.over.history (OpensOnTheWay f old (one ++ two))
-  both_stop first next =
-      leaves_join start.over.history mid.over.history new.over.history (OpensOnTheWay f old (one ++ two))
-      (leaves_weaker start.over.history mid.over.history (OpensOnTheWay f old one) (OpensOnTheWay f old (one ++ two)) (λ c O. (O.0, O.1, passes_front f old O.0 one two O.2, O.3)) first)
-      (leaves_weaker mid.over.history new.over.history (OpensOnTheWay f at two) (OpensOnTheWay f old (one ++ two)) (λ c O. (O.0, O.1, passes_behind f old at O.0 one two leads O.2, O.3)) next)
-
   pub stops_after : (IsSafe f start.over.history → IsTransacted f old one → StopsBetween start mid None f old front) → (IsSafe f mid.over.history → IsTransacted f at two → StopsBetween mid new answer f at rest)
       → IsSafe f start.over.history → IsTransacted f old (law_lines (front ++ rest)) → StopsBetween start new answer f old (front ++ rest)
   stops_after first next safe calm =
@@ -60,4 +53,6 @@ module _ (f : Form) (start mid new : Scene) (answer : Option SessionFault) (old 
       let both : IsTransacted f old (one ++ two) = subst (IsTransacted f old) cut calm in
       let S = first safe (λ s o P. both s o (passes_front f old s one two P)) in
       let T = next S.safe (λ s o P. both s o (passes_behind f old at s one two leads P)) in
-      record { stops = subst (λ ls. LeavesOnly start.over.history new.over.history (OpensOnTheWay f old ls)) (sym cut) (both_stop S.stops T.stops); safe = T.safe }
+      let W = subst (OpensAndStays f start.over.history new.over.history old) (sym cut)
+      (both_open f start.over.history mid.over.history new.over.history old at one two leads (record { opens = S.stops; stays = S.stays }) (record { opens = T.stops; stays = T.stays })) in
+      record { stops = W.opens; stays = W.stays; safe = T.safe }

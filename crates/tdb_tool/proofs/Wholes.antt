@@ -6,6 +6,7 @@ use Rattle.tdb_disk.specs.History.{seen}
 use Rattle.tdb_disk.specs.Stop.{Quiet}
 use Rattle.tdb_space.specs.Accepted.{AcceptWith}
 use Rattle.tdb_space.specs.Form.{Form, form_in}
+use Rattle.tdb_space.specs.Opening.{Opens as FileOpens}
 use Rattle.tdb_backup.specs.Dump.{WroteFront}
 use Rattle.tdb_law.specs.Beginning.{IsLoaded, beginning}
 use Rattle.tdb_law.specs.Lines.{Line as LawLine, IsLawful}
@@ -22,6 +23,7 @@ use Rattle.tdb_openers.proofs.Joining.Finishing.{broken_lawful}
 use Rattle.tdb_openers.specs.Worlds.{World, state_in}
 use Rattle.tdb_world.specs.Died.{IsReadAs}
 use Rattle.tdb_world.proofs.Reopening.{state_reopens}
+use Rattle.tdb_world.proofs.Courses.EndedFiles.{ended_opens}
 use Rattle.tdb_world.proofs.Courses.Finishing.{report_lawful}
 use Rattle.tdb_world.specs.Courses.Stops.{IsTransacted}
 use Rattle.tdb_world.specs.Courses.Unfinished.{TellsUnfinished, EndsWith}
@@ -117,9 +119,9 @@ module _ (f : Form) (options : Options) (a : List ℕ) (orders : List Order) (ol
   from_map lines lawful = subst (λ (q : Map × ℕ). IsLawful f (beginning (options_of options) q.0 q.1) lines) (λ j. (over.file j, over.number j)) lawful
 
   -- all of it was done
-  whole : (new : State) (b : List ℕ) → IsReadAs f b new → (new.own 0).live ≡ false → (lines : List Line) (text : List ℕ) → AllDone (session_parts orders) f old lines text new → (IsTrue told → now ≡ before ++ text)
+  whole : (new : State) (b : List ℕ) → IsReadAs f b new → (EndsWith new [] → FileOpens b) → (new.own 0).live ≡ false → (lines : List Line) (text : List ℕ) → AllDone (session_parts orders) f old lines text new → (IsTrue told → now ≡ before ++ text)
       → Stops old (law_lines lines) → Hears lines → SessionOver f options a orders b told before now Stops Hears
-  whole new b read closed lines text done printed stops heard =
+  whole new b read opens closed lines text done printed stops heard =
       let course = all_course f (session_parts orders) old new lines text done in
       let end = ends_some new in
       record {
@@ -134,6 +136,7 @@ module _ (f : Form) (options : Options) (a : List ℕ) (orders : List Order) (ol
         closed = closed;
         more = end.0;
         ends = end.1;
+        again = λ none. opens (subst (EndsWith new) none end.1);
         lawful = subst (λ ls. IsLawful f (beginning_over f options a) ls) (sym (map-append law_line lines end.0)) (from_map _ (report_lawful f (options_of options) old new course.0 (law_lines lines) end.0 loaded course.1 end.1));
         printed = printed;
         stops = stops;
@@ -165,7 +168,7 @@ module _ (f : Form) (options : Options) (start last : Scene) (orders : List Orde
   Opens = StopsOpen f start.over.history last.over.history
 
   opens : (answer : Option SessionFault) (lines : List Line) → (IsSafe f start.over.history → IsTransacted f old (law_lines lines) → StopsBetween start last answer f old lines) → Opens old (law_lines lines)
-  opens answer lines stops quiet calm = (stops (safe quiet) calm).stops
+  opens answer lines stops quiet calm = let S = stops (safe quiet) calm in record { opens = S.stops; stays = S.stays }
 
   abbrev Hears : Option SessionFault → List Line → Type 0
   Hears answer lines = HeardSo answer start.logs lines last.logs
@@ -187,7 +190,7 @@ module _ (f : Form) (options : Options) (start last : Scene) (orders : List Orde
   ran_by (Ok end) asks closed read (new, is, p) = (
     orders,
     asks,
-    whole f options (seen start.over.history) orders old loaded over told start.written last.written Opens (Hears None) new (seen last.over.history) (read new is) (closed new is) p.0 p.1 p.2.0 p.3
+    whole f options (seen start.over.history) orders old loaded over told start.written last.written Opens (Hears None) new (seen last.over.history) (read new is) (ended_opens last.over.world last.over.history new is) (closed new is) p.0 p.1 p.2.0 p.3
         (opens None p.0 p.2.1) p.2.2,
   )
   ran_by (Err F.Input) asks closed read (new, is, p) = (orders, asks, new, came_all (Some F.Input) new p, read new is)
@@ -224,6 +227,7 @@ module _ (f : Form) (options : Options) (a : List ℕ) (orders : List Order) (to
     closed = p.closed;
     more = p.more;
     ends = p.ends;
+    again = p.again;
     lawful = p.lawful;
     printed = p.printed;
     stops = weaker p.old (law_lines p.lines) p.over p.stops;

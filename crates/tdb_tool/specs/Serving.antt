@@ -15,7 +15,7 @@ use Rattle.tdb_world.specs.Whole.{form_at}
 use Rattle.tdb_world.specs.Stops.{IsSafe}
 use Rattle.tdb_world.specs.Courses.Hearing.{Heard, HeardUpTo}
 use Rattle.tdb_world.specs.Courses.Scene.{Scene, IsStateAt}
-use Rattle.tdb_world.specs.Courses.Stops.{IsTransacted, OpensOnTheWay}
+use Rattle.tdb_world.specs.Courses.Stops.{IsTransacted, OpensOnTheWay, StaysTold}
 use Rattle.tdb_log.specs.Logs.{Logged}
 use Rattle.tdb_log.specs.declared.log.LogRefusal.{LogRefusal}
 use Rattle.tdb_log.specs.declared.log.LogRefusal.TheVariants as Unheard
@@ -100,9 +100,10 @@ abbrev pub IsUnspent : Scene → Type 0
 IsUnspent s = s.over.spent ≡ false
 
 -- Each stop between two moments leaves a file that opens on the way that these lines, which were told in between, tell
--- from a state; and unless the disk failed the file is safe at the second.
+-- from a state, and what they tell stays; and unless the disk failed the file is safe at the second.
 pub record StopsBetween (old new : Scene) (answer : Option SessionFault) (f : Form) (state : State) (lines : List Line) : Type 0 where
   pub stops : LeavesOnly old.over.history new.over.history (OpensOnTheWay f state (law_lines lines))
+  pub stays : StaysTold f old.over.history new.over.history state (law_lines lines)
   pub safe : UnlessBroken answer (IsSafe f new.over.history)
 
 -- logs heard of all of these lines, or up to one whose notice the last of them refused

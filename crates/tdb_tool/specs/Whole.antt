@@ -1,10 +1,11 @@
 -- A session from its beginning to its end, over an opened image.
 use Rattle.std.specs.Prelude.{◌≡◌, ℕ, Bool, IsTrue, false, None, Some, List, [], ◌∷◌, ◌++◌, Result, Ok, Err}
 use Rattle.tdb_disk.specs.History.{History, seen}
-use Rattle.tdb_disk.specs.Stop.{Quiet, LeavesOnly}
+use Rattle.tdb_disk.specs.Stop.{Quiet}
 use Rattle.tdb_words.specs.Word.{word}
 use Rattle.tdb_words.specs.Header.{sequence_at}
 use Rattle.tdb_space.specs.Form.{Form}
+use Rattle.tdb_space.specs.Opening.{Opens}
 use Rattle.tdb_backup.specs.Dump.{WroteFront}
 use Rattle.tdb_law.specs.Beginning.{IsLoaded, beginning}
 use Rattle.tdb_law.specs.Images.{image_map}
@@ -16,7 +17,7 @@ use Rattle.tdb_commands.specs.declared.command.Command.{Command}
 use Rattle.tdb_commands.specs.declared.line.Line.{Line}
 use Rattle.tdb_commands.specs.declared.play.Play.{Play}
 use Rattle.tdb_world.specs.Died.{IsReadAs}
-use Rattle.tdb_world.specs.Courses.Stops.{IsTransacted, OpensOnTheWay}
+use Rattle.tdb_world.specs.Courses.Stops.{IsTransacted, OpensAndStays}
 use Rattle.tdb_world.specs.Courses.Unfinished.{EndsWith}
 use Rattle.tdb_commands.specs.declared.options.Options.{Options}
 use Rattle.tdb_log.specs.Logs.{Logged}
@@ -59,14 +60,15 @@ beginning_over f options img = beginning (options_of options) (image_map f img) 
 -- What stops leave while a session leads from one history of a file to another, by its lines from this state on. Where
 -- all of the file was on the medium at first, and in no state that the lines pass an opener is in the middle of a
 -- change outside a transaction, each stop leaves a file that opens to the map and the sequence number of a state that
--- they pass, or of the transaction whose Commit was just shutting its gate.
+-- they pass, or of the transaction whose Commit was just shutting its gate; and what they tell stays.
 abbrev pub StopsOpen : Form → History → History → State → List LawLine → Type 0
-StopsOpen f h k start lines = Quiet h → IsTransacted f start lines → LeavesOnly h k (OpensOnTheWay f start lines)
+StopsOpen f h k start lines = Quiet h → IsTransacted f start lines → OpensAndStays f h k start lines
 
 -- All parts of a session were done over the image a, which is b after them, from a world just loaded, and their text
--- was printed; an open gate undone, b has the map of the state to which they led, in which the opener isn't live. The
--- whole report, with the lines of what isn't done behind it, is lawful from the map of a on. Stops meanwhile leave what
--- is said of the lines from that world on, and logs heard of them what is said.
+-- was printed; an open gate undone, b has the map of the state to which they led, in which the opener isn't live. Where
+-- no command is unfinished b can be opened. The whole report, with the lines of what isn't done behind it, is lawful
+-- from the map of a on. Stops meanwhile leave what is said of the lines from that world on, and logs heard of them what
+-- is said.
 pub record SessionOver (f : Form) (options : Options) (a : List ℕ) (orders : List Order) (b : List ℕ) (told : Bool) (before now : List ℕ) (Stops : State → List LawLine → Type 0)
     (Hears : List Line → Type 0) : Type 0 where
   pub old : State
@@ -80,6 +82,7 @@ pub record SessionOver (f : Form) (options : Options) (a : List ℕ) (orders : L
   pub closed : (new.own 0).live ≡ false
   pub more : List Line
   pub ends : EndsWith new more
+  pub again : more ≡ [] → Opens b
   pub lawful : IsLawful f (beginning_over f options a) (law_lines (lines ++ more))
   pub printed : IsTrue told → now ≡ before ++ text
   pub stops : Stops old (law_lines lines)
