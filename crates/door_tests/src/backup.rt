@@ -99,7 +99,7 @@ pub(crate) static TABLES: [Table; 4] = [
             ("backup f.tdb", "", Files(Call::Rename, 0), 4, FAULT),
             ("backup f.tdb", "", Disk("f.tdb", Call::Len, 0), 4, FAULT),
             ("backup f.tdb", "", Disk("f.tdb", Call::Read, 0), 4, FAULT),
-            ("backup f.tdb", "", Disk("f.tdb", Call::Read, 140), 4, FAULT),
+            ("backup f.tdb", "", Disk("f.tdb", Call::Read, 130), 4, FAULT),
             (
                 "backup f.tdb",
                 "",

@@ -115,7 +115,7 @@ pub(crate) static TABLES: [Table; 9] = [
             (
                 "tool f.tdb repack",
                 "",
-                Disk("f.tdb", Call::Read, 140),
+                Disk("f.tdb", Call::Read, 130),
                 4,
                 FAULT,
             ),
@@ -237,7 +237,7 @@ pub(crate) static TABLES: [Table; 9] = [
             (
                 "convert f.tdb g.tdb",
                 "",
-                Disk("f.tdb", Call::Read, 140),
+                Disk("f.tdb", Call::Read, 130),
                 4,
                 FAULT,
             ),

@@ -26,7 +26,7 @@ pub stands_in : (f : Form) (list : ListKind) (img : List ℕ) (at : ℕ) → IsA
     → (magic_of f.order img at ≡ USED → is_misfiled f (kind_of list) img at ≡ false) → StandsIn f (kind_of list) img at
 stands_in f (Chain j) img at among magic aligned above within good tailed placed =
     let g = good_from f (chain_number j) img at (stands_to f img at aligned above within) good tailed in
-    record { whole = g.whole; magic = magic; filed = (among, filed_from f img j at g.fits (placed magic) magic) }
+    record { whole = g.whole; magic = magic; filed = (among, λ used. filed_from f img j at g.fits (placed used) used) }
 stands_in f Free img at among magic aligned above within good tailed placed =
     record { whole = (good_from f free_list img at (stands_to f img at aligned above within) good tailed).whole; magic = magic; filed = tt }
 

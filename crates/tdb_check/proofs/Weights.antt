@@ -1,5 +1,5 @@
 -- Sums over lists that are joined: what a list weighs, its bytes and its keys.
-use Rattle.std.proofs.Common.{◌≡◌, ℕ, zero, suc, ◌<◌, ◌≤◌, false, List, [], ◌∷◌, ◌++◌, cond, count_by, refl, sym, ap, subst, inl, inr, arith}
+use Rattle.std.proofs.Common.{◌≡◌, ℕ, zero, suc, ◌<◌, ◌≤◌, false, List, [], ◌∷◌, ◌++◌, length, cond, count_by, refl, sym, ap, subst, inl, inr, arith}
 use Rattle.std.specs.Prelude.{sum_by}
 use Rattle.std.specs.List.{IsDistinct, AllByRecursion}
 use Rattle.std.specs.Map.{keys_of}
@@ -12,6 +12,11 @@ use Rattle.tdb_space.specs.Pairs.{joined, pair_of, pairs, same_key}
 use Rattle.tdb_space.specs.Extents.{once, times, extent_at, extents}
 use Rattle.tdb_space.proofs.Extents.Counts.{times-append}
 use Rattle.tdb_space.proofs.Pairs.Maps.{same_key-eq, same_key-refl}
+
+-- a list is as long as it weighs where each record weighs 1
+pub length_sum : (xs : List ℕ) → length xs ≡ sum_by (λ x. 1) xs
+length_sum [] = refl
+length_sum (x ∷ xs) = omega (arith, length_sum xs, sum_by-cons (λ (y : ℕ). 1) x xs)
 
 -- one list weighs no more than all
 pub sum_member : (w : ℕ → ℕ) (F : ℕ → List ℕ) (j n : ℕ) → j < n → sum_by w (F j) ≤ sum_by w (joined n F)

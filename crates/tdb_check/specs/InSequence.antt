@@ -1,18 +1,12 @@
--- Files whose records stand one after the other from the heads to the end, and what is known of their lists while the
--- records are met in this order.
-use Rattle.std.specs.Prelude.{◌≡◌, ℕ, ◌+◌, ◌<◌, ◌≤◌, false, List, [], ◌∷◌, ◌++◌, length, take, drop, sum_by, slice_index_or}
-use Rattle.tdb_words.specs.declared.record.TheConstants.{USED, FREE}
-use Rattle.tdb_words.specs.Word.{word}
-use Rattle.tdb_space.specs.Form.{Form, chain_head, free_head}
-use Rattle.tdb_space.specs.Record.{Whole, Fits, magic_of, next_of, rec_len_of}
-use Rattle.tdb_space.specs.Chain.{Linked}
-use Rattle.tdb_space.specs.Pairs.{joined}
-use Rattle.tdb_space.specs.Accepted.{Filed, AllFiled}
+-- Records as they stand in a file: the list of each, and what a window on the file shows of it.
+use Rattle.std.specs.Prelude.{◌≡◌, ℕ, ◌+◌, ◌<◌, ◌≤◌, false, List, [], ◌∷◌, length, take, drop}
+use Rattle.tdb_words.specs.declared.record.TheConstants.{USED}
+use Rattle.tdb_space.specs.Form.{Form}
+use Rattle.tdb_space.specs.Record.{Whole, IsChained, IsFree, magic_of, next_of}
+use Rattle.tdb_space.specs.Accepted.{Filed}
 use Rattle.tdb_space.specs.FirstFault.{ListKind as Kind, chain_number, free_list}
 use Rattle.tdb_check.specs.declared.list_kind.ListKind.{ListKind}
 use Rattle.tdb_check.specs.declared.list_kind.ListKind.TheVariants.{Chain, Free}
-use Rattle.tdb_check.specs.declared.runs.Runs.{Runs}
-use Rattle.tdb_check.specs.declared.gathering.Gathering.{Gathering}
 use Rattle.tdb_check.specs.declared.window.Window.{Window}
 use Rattle.tdb_check.specs.declared.next_record.Member.{Member}
 use Rattle.tdb_check.specs.declared.next_record.Filing.{Filing}
@@ -20,19 +14,14 @@ use Rattle.tdb_words.specs.Record.{rec_at}
 use Rattle.tdb_words.specs.Hash.{h_of, h_jenkins}
 use Rattle.tdb_check.specs.Seen.{kind_of, FoundAt, is_bad_header, is_misfiled_header}
 
--- from an offset to another, records stand whole one after the other, and what the used ones hold fits into them
-abbrev pub InSequence : Form → List ℕ → ℕ → List ℕ → ℕ → Type 0
-InSequence f img at [] to = at ≡ to
-InSequence f img at (x ∷ xs) to = (at ≡ x) × Whole f img x × (magic_of f.order img x ≡ USED → Fits f.order img x) × InSequence f img (x + 24 + rec_len_of f.order img x) xs to
-
--- the magic of the records of a list, where a chain has used ones alone
+-- the magic of the records of a list
 abbrev pub IsOf : Kind → ℕ → Type 0
-IsOf (chain_number j) magic = magic ≡ USED
-IsOf free_list magic = magic ≡ FREE
+IsOf (chain_number j) magic = IsChained magic
+IsOf free_list magic = IsFree magic
 
--- a record of a chain is filed there
+-- a used record of a chain is filed there
 abbrev pub IsFiledIn : Form → Kind → List ℕ → ℕ → Type 0
-IsFiledIn f (chain_number j) img at = (j < f.chains) × Filed f img j at
+IsFiledIn f (chain_number j) img at = (j < f.chains) × (magic_of f.order img at ≡ USED → Filed f img j at)
 IsFiledIn f free_list img at = Unit {0}
 
 -- a record of a list stands whole at an offset, and where it is used it is filed there
@@ -41,53 +30,10 @@ pub record StandsIn (f : Form) (kind : Kind) (img : List ℕ) (at : ℕ) : Type 
   pub magic : IsOf kind (magic_of f.order img at)
   pub filed : IsFiledIn f kind img at
 
--- from an offset records of a list follow one another by their next words, and the last leads to another offset
-abbrev pub LeadsFrom : Form → Kind → List ℕ → ℕ → List ℕ → ℕ → Type 0
-LeadsFrom f kind img at [] to = at ≡ to
-LeadsFrom f kind img at (x ∷ xs) to = (at ≡ x) × Whole f img x × IsOf kind (magic_of f.order img x) × LeadsFrom f kind img (next_of f.order img x) xs to
-
--- Records of one list in runs: those of the run at hand follow one another from its start, and those of the runs before
--- it follow one another to the end of the list.
-pub record Gathered (f : Form) (kind : Kind) (img xs : List ℕ) (r : Runs) : Type 0 where
-  pub latest : List ℕ
-  pub earlier : List ℕ
-  pub parts : xs ≡ latest ++ earlier
-  pub leads : LeadsFrom f kind img r.start latest r.next
-  pub linked : Linked f (IsOf kind) img r.before earlier
-
--- one list is another with one more element at some place
-pub record HasOneMore (x : ℕ) (xs ys : List ℕ) : Type 0 where
-  pub front : List ℕ
-  pub back : List ℕ
-  pub old : xs ≡ front ++ back
-  pub new : ys ≡ front ++ x ∷ back
-
--- the runs have the record at an offset besides those before
-pub record GatheredWith (f : Form) (kind : Kind) (img xs : List ℕ) (at : ℕ) (r : Runs) : Type 0 where
-  pub ys : List ℕ
-  pub more : HasOneMore at xs ys
-  pub gathered : Gathered f kind img ys r
-
--- the runs are the whole of the list whose head is this word: the latest begins there, and leads to the one before
-abbrev pub AreListOf : Runs → ℕ → Type 0
-AreListOf r head = (r.start ≡ head) × (r.next ≡ r.before)
-
--- Each of these records was put into the runs of its list, and they are counted. That a record is in one list, once, is
--- said by sums: whatever each weighs, the lists weigh as much as the records.
-pub record Met (f : Form) (img xs : List ℕ) (g : Gathering) : Type 0 where
-  pub chain : ℕ → List ℕ
-  pub free : List ℕ
-  pub chains : (j : ℕ) (d : Runs) → j < f.chains → Gathered f (chain_number j) img (chain j) (slice_index_or g.chains.items j d)
-  pub frees : Gathered f free_list img free g.free
-  pub filed : (j : ℕ) → j < f.chains → AllFiled f img j (chain j)
-  pub same : (weight : ℕ → ℕ) → sum_by weight (joined f.chains chain) + sum_by weight free ≡ sum_by weight xs
-  pub live : g.live ≡ length (joined f.chains chain)
-  pub free_records : g.free_records ≡ length free
-
--- the runs of each list are the whole of it
-pub record AllAreLists (f : Form) (img : List ℕ) (g : Gathering) : Type 0 where
-  pub chains : (j : ℕ) (d : Runs) → j < f.chains → AreListOf (slice_index_or g.chains.items j d) (word f.order img (chain_head j))
-  pub free : AreListOf g.free (word f.order img free_head)
+-- from an offset on records of a list follow one another by their next words, to the end of the list
+abbrev pub ListFrom : Form → Kind → List ℕ → ℕ → List ℕ → Type 0
+ListFrom f kind img at [] = at ≡ 0
+ListFrom f kind img at (x ∷ xs) = (at ≡ x) × StandsIn f kind img x × ListFrom f kind img (next_of f.order img x) xs
 
 -- the chain is one of so many
 abbrev pub IsAmong : ℕ → ListKind → Type 0

@@ -15,3 +15,4 @@ pub mod Notes
 pub mod Tails
 pub mod Reads
 pub mod InSequence
+pub mod Links

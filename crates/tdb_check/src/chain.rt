@@ -132,7 +132,7 @@ fn pass_record<S: Space>(
 }
 
 /// How many used records a record counts for: one or none.
-fn used_count(r: &Rec) -> u64
+pub(crate) fn used_count(r: &Rec) -> u64
     ensures one { result ≡ (if r.now.magic == USED then 1 else 0) }
     ensures at_most { result ≤ 1 }
 {

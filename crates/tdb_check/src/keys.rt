@@ -53,6 +53,16 @@ impl Keys {
         }
     }
 
+    /// No record, and room for so many.
+    pub fn with_room(alloc: Global, room: usize) -> Result<Self, AllocError>
+        ensures { IfOk result (λ k. (f : Form) (img : List ℕ) → KeptIn f img [] k) }
+    {
+        Ok(Keys {
+            noted: Vec::with_capacity(alloc, room)?,
+            sorted: Vec::new(alloc),
+        })
+    }
+
     /// Forgets all records.
     pub fn clear(&mut self)
         ensures { (f : Form) (img : List ℕ) → KeptIn f img [] self.new }

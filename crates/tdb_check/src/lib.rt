@@ -1,25 +1,25 @@
 //! The check of a file: whether its image is accepted, and what its first fault is.
 #![tactic(auto)]
 
+mod all_links;
 mod area;
 mod chain;
 mod chains;
 mod extent;
 mod free_list;
 mod front;
-mod gathering;
 mod hashes;
 mod in_sequence;
 mod judge;
 mod keys;
 mod laws;
+mod links;
 mod list_kind;
 mod lists;
 mod next_record;
 mod record;
 mod refusal;
 mod report;
-mod runs;
 mod same_key;
 mod stray;
 mod tails;

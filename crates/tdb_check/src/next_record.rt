@@ -13,7 +13,7 @@ use crate::list_kind::ListKind;
 use crate::record::{Found, header_in, is_bad};
 use crate::window::Window;
 use tdb_space::{Io, Space};
-use tdb_words::{FREE, HashKind, Order, Rec, USED, chain_of};
+use tdb_words::{DEAD, FREE, HashKind, Order, Rec, USED, chain_of};
 
 /// A record, and the list that it belongs to.
 #[derive(Clone, Copy)]
@@ -30,15 +30,15 @@ struct Filing {
     chains: u32,
 }
 
-/// The list that a record with this header belongs to, for a used one by the hash in its header; none for one that is
-/// neither used nor free.
+/// The list that a record with this header belongs to, for a used or dead one by the hash in its header; none for one
+/// that is neither used, dead nor free. A dead record may stand in any chain, and is put there by what stores.
 fn list_of(header: &Rec, chains: u32) -> Option<ListKind>
     requires { 0 < chains }
     ensures of { IfSome result (λ list. IsAmong chains list × IsOf (kind_of list) header.now.magic) }
     ensures filed { IfSome result (λ list. is_misfiled_header (kind_of list) header.now header.now.full_hash chains ≡ false) }
 {
     match header.magic {
-        USED => Some(ListKind::Chain(chain_of(header.full_hash, chains))),
+        USED | DEAD => Some(ListKind::Chain(chain_of(header.full_hash, chains))),
         FREE => Some(ListKind::Free),
         _ => None,
     }

@@ -14,7 +14,6 @@ ghost use Rattle.tdb_space.specs.Frame.{Looked};
 ghost use Rattle.tdb_check.specs.declared.refusal.CheckRefusal.TheVariants.{Io};
 
 use crate::area::{area_len, put_area, read_area};
-use crate::extent::Extent;
 use crate::in_sequence::check_in_sequence;
 use crate::judge::judge_extents;
 use crate::lists::follow_lists;
@@ -24,50 +23,22 @@ use crate::view_front::check_front;
 use std::alloc::Global;
 use tdb_space::Space;
 
-/// How many bytes a file has at least for each chain, where it is read from its front: the list of chains takes 12
-/// bytes for each.
-const BYTES_A_CHAIN: u64 = 64;
-
-/// The report of a file of `len` bytes with this undo area, where it has none, no more than one chain for each 64
-/// bytes, and the order of its records tells it.
-fn report_in_sequence<S: Space>(
-    alloc: Global,
-    s: &mut S,
-    len: u64,
-    undo: Option<Extent>,
-) -> Result<Option<Report>, CheckRefusal>
-    requires length { len ≡ S.size s.old }
-    requires heads { data_start (S.form s.old) ≤ len }
-    requires chains { 0 < (S.form s.old).chains }
-    ensures accepted { IfOk result (λ found. IfSome found (λ r. IsTrue S.tells → length (S.image s.old) ≡ len → S.form s.old ≡ form_of (S.image s.old) → HeadsSound (S.image s.old)
-        → area_seen undo ≡ area (S.form s.old).order (S.image s.old) → Accept (S.image s.old) × Counted (S.image s.old) r)) }
-    ensures no_fault { IfErr result (λ e. IsTrue S.tells → length (S.image s.old) ≡ len → Names e (λ _. ⊥)) }
-    ensures looked { Looked S.Space s.old s.new }
-    ensures cause { HasCauseOf Io (S.faults s.old) (S.faults s.new) result }
-    ensures bytes_read { IsTrue S.tells → length (S.image s.old) ≡ len → RoseUpTo (sequence_reads (S.image s.old)) (S.bytes_read s.old) (S.bytes_read s.new) }
-{
-    if undo.is_some() || len / BYTES_A_CHAIN < s.hash_size() as u64 {
-        return Ok(None);
-    }
-    check_in_sequence(alloc, s, len)
-}
-
 /// Checks a file: it answers what it counted where the file is accepted, and else the file's first fault and its place.
 /// The condition on told bytes is that the view has the form that the file's header states.
 ///
 /// The faults come in this order: the front, the undo area, chain 0 and the next chains, the free list, the least byte
 /// that is held twice, and the least byte outside all records and the undo area that is neither 0 nor padding.
 ///
-/// A file without an undo area is first read once from its front, in pieces of 128 KiB, as long as no record is dead,
-/// none leaves a gap, and each continues its list, or begins it anew in front of what was met of it. Where that holds
-/// to the end, as in a file to which pairs were only added, and no two keys are the same, all is known. Else the lists
-/// are walked along.
+/// The file is first read once from its front, in pieces of 128 KiB, as long as records and the undo area leave no gap,
+/// and each record tells the list that it is in. Where that holds to the end, the lists have just these records, and no
+/// two keys are the same, all is known. Else the lists are walked along.
 ///
 /// It takes time n log n in the number n of records. In a walk a record costs one read where its header, key and tailer
 /// stand within 128 bytes; bytes that belong to no record are read in blocks of 65,536. Keys are read again only where
 /// two of a chain, or in the first pass two of the file, have one Jenkins hash, whatever the file's own hash is. The
-/// first pass keeps 12 bytes a chain and 12 a used record, and forgets them before a walk. That keeps 8 bytes a record,
-/// and somewhat more for each record of the list that it follows, whatever its keys are. It changes nothing.
+/// first pass keeps 12 bytes a record, 12 more a used one, and 4 for each 1,024 bytes of the file, and forgets them before
+/// a walk. That keeps 8 bytes a record, and somewhat more for each record of the list that it follows, whatever its keys
+/// are. It changes nothing.
 ///
 /// Of a file that it accepts it reads at most 15 times its length from the front; and in a walk 200 bytes, 4 a chain,
 /// 132 a record, each used key 16 times, the length of the file once, and both keys of each two of one chain that have
@@ -86,7 +57,7 @@ pub fn check<S: Space>(alloc: Global, s: &mut S) -> Result<Report, CheckRefusal>
 {
     let len = check_front(s)?;
     let area = read_area(s, len)?;
-    if let Some(report) = report_in_sequence(alloc, s, len, area)? {
+    if let Some(report) = check_in_sequence(alloc, s, len, area)? {
         return Ok(report);
     }
     let mut lists = follow_lists(alloc, s, len)?;

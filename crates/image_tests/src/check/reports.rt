@@ -62,8 +62,8 @@ const NEW: Checked = Checked {
     reads: Some(4),
 };
 
-/// The file with a record of each kind. The front, the area's word and header, the chain's head and two records, the
-/// free list's head and record, and two gaps are read.
+/// The file with a record of each kind. The front, the area's word and header are read, a piece of the file up to a
+/// gap, and then the chain's head and two records, the free list's head and record, and two gaps.
 const FULL: Checked = Checked {
     len: 320,
     words: &WORDS,
@@ -74,7 +74,7 @@ const FULL: Checked = Checked {
         dead_bytes: 16,
         area: 32,
     }),
-    reads: Some(10),
+    reads: Some(11),
     ..NEW
 };
 

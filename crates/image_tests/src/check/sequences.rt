@@ -102,7 +102,6 @@ static SEQUENCES: [(&'static str, Sequence); 12] = [
                 (0, *b"cccc", USED),
                 (208, *b"bbbb", USED),
             ],
-            reads: Some(8),
             ..FORWARD
         },
     ),
@@ -119,7 +118,6 @@ static SEQUENCES: [(&'static str, Sequence); 12] = [
                 dead_records: 1,
                 ..NOTHING
             }),
-            reads: Some(8),
             ..FORWARD
         },
     ),

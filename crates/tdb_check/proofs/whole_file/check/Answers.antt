@@ -109,10 +109,10 @@ returns-in_err-lists-clause-bytes_in_all g c told =
     let quick = c.in_ok-report.ensures.looked in
     let long : length img ≡ c.in_ok-len.len = g.met.S.Space.told_size c.args.s.now told ∙ sym c.in_ok-len.ensures.length in
     let front = rose_then _ _ 196 _ _ _ c.in_ok-len.ensures.bytes_read c.in_ok-area.ensures.bytes_read (omega arith) in
-    let order = subst (λ i. RoseUpTo (sequence_reads i) (g.S.Space.bytes_read c.read_area.new.s) (g.S.Space.bytes_read c.report_in_sequence.new.s)) (second.image ∙ first.image)
+    let order = subst (λ i. RoseUpTo (sequence_reads i) (g.S.Space.bytes_read c.read_area.new.s) (g.S.Space.bytes_read c.check_in_sequence.new.s)) (second.image ∙ first.image)
     (c.in_ok-report.ensures.bytes_read told (ap length (second.image ∙ first.image) ∙ long)) in
     let heads = rose_then _ _ (196 + sequence_reads img) _ _ _ front order (omega arith) in
-    let lists = still_then (λ h i. RoseUpTo (lists_reads 65 h i) (g.S.Space.bytes_read c.report_in_sequence.new.s) (g.S.Space.bytes_read c.follow_lists.new.s)) (quick.form ∙ second.form ∙ first.form) (quick.image ∙ second.image ∙ first.image)
+    let lists = still_then (λ h i. RoseUpTo (lists_reads 65 h i) (g.S.Space.bytes_read c.check_in_sequence.new.s) (g.S.Space.bytes_read c.follow_lists.new.s)) (quick.form ∙ second.form ∙ first.form) (quick.image ∙ second.image ∙ first.image)
     (c.in_err-lists.ensures.bytes_in_all told (ap length (quick.image ∙ second.image ∙ first.image) ∙ long)) in
     rose_then _ _ _ _ _ _ heads lists (omega arith)
 
@@ -125,10 +125,10 @@ returns-in_err-put_area-clause-bytes_in_all g c told =
     let quick = c.in_ok-report.ensures.looked in
     let long : length img ≡ c.in_ok-len.len = g.met.S.Space.told_size c.args.s.now told ∙ sym c.in_ok-len.ensures.length in
     let front = rose_then _ _ 196 _ _ _ c.in_ok-len.ensures.bytes_read c.in_ok-area.ensures.bytes_read (omega arith) in
-    let order = subst (λ i. RoseUpTo (sequence_reads i) (g.S.Space.bytes_read c.read_area.new.s) (g.S.Space.bytes_read c.report_in_sequence.new.s)) (second.image ∙ first.image)
+    let order = subst (λ i. RoseUpTo (sequence_reads i) (g.S.Space.bytes_read c.read_area.new.s) (g.S.Space.bytes_read c.check_in_sequence.new.s)) (second.image ∙ first.image)
     (c.in_ok-report.ensures.bytes_read told (ap length (second.image ∙ first.image) ∙ long)) in
     let heads = rose_then _ _ (196 + sequence_reads img) _ _ _ front order (omega arith) in
-    let lists = still_then (λ h i. RoseUpTo (lists_reads 65 h i) (g.S.Space.bytes_read c.report_in_sequence.new.s) (g.S.Space.bytes_read c.follow_lists.new.s)) (quick.form ∙ second.form ∙ first.form) (quick.image ∙ second.image ∙ first.image)
+    let lists = still_then (λ h i. RoseUpTo (lists_reads 65 h i) (g.S.Space.bytes_read c.check_in_sequence.new.s) (g.S.Space.bytes_read c.follow_lists.new.s)) (quick.form ∙ second.form ∙ first.form) (quick.image ∙ second.image ∙ first.image)
     (c.in_ok-lists.ensures.bytes_in_all told (ap length (quick.image ∙ second.image ∙ first.image) ∙ long)) in
     rose_then _ _ _ _ _ _ heads lists (omega arith)
 
@@ -141,10 +141,10 @@ returns-in_err-dead_bytes-clause-bytes_in_all g c told =
     let quick = c.in_ok-report.ensures.looked in
     let long : length img ≡ c.in_ok-len.len = g.met.S.Space.told_size c.args.s.now told ∙ sym c.in_ok-len.ensures.length in
     let front = rose_then _ _ 196 _ _ _ c.in_ok-len.ensures.bytes_read c.in_ok-area.ensures.bytes_read (omega arith) in
-    let order = subst (λ i. RoseUpTo (sequence_reads i) (g.S.Space.bytes_read c.read_area.new.s) (g.S.Space.bytes_read c.report_in_sequence.new.s)) (second.image ∙ first.image)
+    let order = subst (λ i. RoseUpTo (sequence_reads i) (g.S.Space.bytes_read c.read_area.new.s) (g.S.Space.bytes_read c.check_in_sequence.new.s)) (second.image ∙ first.image)
     (c.in_ok-report.ensures.bytes_read told (ap length (second.image ∙ first.image) ∙ long)) in
     let heads = rose_then _ _ (196 + sequence_reads img) _ _ _ front order (omega arith) in
-    let lists = still_then (λ h i. RoseUpTo (lists_reads 65 h i) (g.S.Space.bytes_read c.report_in_sequence.new.s) (g.S.Space.bytes_read c.follow_lists.new.s)) (quick.form ∙ second.form ∙ first.form) (quick.image ∙ second.image ∙ first.image)
+    let lists = still_then (λ h i. RoseUpTo (lists_reads 65 h i) (g.S.Space.bytes_read c.check_in_sequence.new.s) (g.S.Space.bytes_read c.follow_lists.new.s)) (quick.form ∙ second.form ∙ first.form) (quick.image ∙ second.image ∙ first.image)
     (c.in_ok-lists.ensures.bytes_in_all told (ap length (quick.image ∙ second.image ∙ first.image) ∙ long)) in
     rose_then (196 + sequence_reads img + lists_reads 65 f img) _ _ _ _ _ (rose_then _ _ _ _ _ _ heads lists (omega arith)) c.in_err-dead_bytes.ensures.bytes_read (omega (arith, long))
 
@@ -157,10 +157,10 @@ returns-clause-bytes_in_all g c told =
     let quick = c.in_ok-report.ensures.looked in
     let long : length img ≡ c.in_ok-len.len = g.met.S.Space.told_size c.args.s.now told ∙ sym c.in_ok-len.ensures.length in
     let front = rose_then _ _ 196 _ _ _ c.in_ok-len.ensures.bytes_read c.in_ok-area.ensures.bytes_read (omega arith) in
-    let order = subst (λ i. RoseUpTo (sequence_reads i) (g.S.Space.bytes_read c.read_area.new.s) (g.S.Space.bytes_read c.report_in_sequence.new.s)) (second.image ∙ first.image)
+    let order = subst (λ i. RoseUpTo (sequence_reads i) (g.S.Space.bytes_read c.read_area.new.s) (g.S.Space.bytes_read c.check_in_sequence.new.s)) (second.image ∙ first.image)
     (c.in_ok-report.ensures.bytes_read told (ap length (second.image ∙ first.image) ∙ long)) in
     let heads = rose_then _ _ (196 + sequence_reads img) _ _ _ front order (omega arith) in
-    let lists = still_then (λ h i. RoseUpTo (lists_reads 65 h i) (g.S.Space.bytes_read c.report_in_sequence.new.s) (g.S.Space.bytes_read c.follow_lists.new.s)) (quick.form ∙ second.form ∙ first.form) (quick.image ∙ second.image ∙ first.image)
+    let lists = still_then (λ h i. RoseUpTo (lists_reads 65 h i) (g.S.Space.bytes_read c.check_in_sequence.new.s) (g.S.Space.bytes_read c.follow_lists.new.s)) (quick.form ∙ second.form ∙ first.form) (quick.image ∙ second.image ∙ first.image)
     (c.in_ok-lists.ensures.bytes_in_all told (ap length (quick.image ∙ second.image ∙ first.image) ∙ long)) in
     rose_then (196 + sequence_reads img + lists_reads 65 f img) _ _ _ _ _ (rose_then _ _ _ _ _ _ heads lists (omega arith)) c.in_ok-dead_bytes.ensures.bytes_read (omega (arith, long))
 
@@ -173,10 +173,10 @@ returns-clause-bytes_read g c told =
     let quick = c.in_ok-report.ensures.looked in
     let long : length img ≡ c.in_ok-len.len = g.met.S.Space.told_size c.args.s.now told ∙ sym c.in_ok-len.ensures.length in
     let front = rose_then _ _ 196 _ _ _ c.in_ok-len.ensures.bytes_read c.in_ok-area.ensures.bytes_read (omega arith) in
-    let order = subst (λ i. RoseUpTo (sequence_reads i) (g.S.Space.bytes_read c.read_area.new.s) (g.S.Space.bytes_read c.report_in_sequence.new.s)) (second.image ∙ first.image)
+    let order = subst (λ i. RoseUpTo (sequence_reads i) (g.S.Space.bytes_read c.read_area.new.s) (g.S.Space.bytes_read c.check_in_sequence.new.s)) (second.image ∙ first.image)
     (c.in_ok-report.ensures.bytes_read told (ap length (second.image ∙ first.image) ∙ long)) in
     let heads = rose_then _ _ (196 + sequence_reads img) _ _ _ front order (omega arith) in
-    let lists = still_then (λ h i. RoseUpTo (lists_reads 1 h i) (g.S.Space.bytes_read c.report_in_sequence.new.s) (g.S.Space.bytes_read c.follow_lists.new.s)) (quick.form ∙ second.form ∙ first.form) (quick.image ∙ second.image ∙ first.image)
+    let lists = still_then (λ h i. RoseUpTo (lists_reads 1 h i) (g.S.Space.bytes_read c.check_in_sequence.new.s) (g.S.Space.bytes_read c.follow_lists.new.s)) (quick.form ∙ second.form ∙ first.form) (quick.image ∙ second.image ∙ first.image)
     (c.in_ok-lists.ensures.bytes_read told (ap length (quick.image ∙ second.image ∙ first.image) ∙ long)) in
     rose_then (196 + sequence_reads img + lists_reads 1 f img) _ _ _ _ _ (rose_then _ _ _ _ _ _ heads lists (omega arith)) c.in_ok-dead_bytes.ensures.bytes_read (omega (arith, long))
 
