@@ -10,5 +10,5 @@ pub mod PlainJob
 pub mod PlainReady
 pub mod TaskReady
 pub mod JobFiles
-pub mod FoundOnce
 pub mod PlainCursors
+pub mod Fullness

@@ -7,6 +7,7 @@ use Rattle.tdb_law.specs.Commands.{Turn}
 use Rattle.tdb_law.specs.Commands.Turn.{Step, Blocked, Ends}
 use Rattle.tdb_law.specs.Openers.{Own, Spot, View}
 use Rattle.tdb_openers.specs.declared.job.Job.{Job}
+use Rattle.tdb_openers.specs.declared.job.Job.TheVariants.{Plain}
 use Rattle.tdb_openers.specs.declared.job.Task.{Task}
 use Rattle.tdb_openers.specs.Openers.{command_in, law_task, JobStands, TaskStands}
 use Rattle.tdb_openers.specs.Cursors.{is_stood, CursorsBeside, LeavesCursors}
@@ -18,6 +19,11 @@ pub record JobIsReady (f : Form) (x : Own) (s : Spot) (job : Job) (n who owner s
   pub number : owner ≡ who + 1
   pub stands : JobStands f x job n size
   pub holds : OpenerHolds f x s (command_in job) n who ps
+
+-- a job that is a command on the map, but for a check
+abbrev pub IsPlain : Job → Type 0
+IsPlain (Plain doing) = Unit {0}
+IsPlain job = ⊥
 
 -- the task after a turn, of which this job is left: with a step more, with the same steps, or none
 abbrev pub task_after : Job → ℕ → Turn → Option Task

@@ -10,6 +10,7 @@ ghost use Rattle.tdb_law.specs.World.{HasFewChains};
 ghost use Rattle.tdb_law.specs.Beginning.{IsLoaded};
 ghost use Rattle.tdb_law.specs.Events.{Joins, Given};
 ghost use Rattle.tdb_law.specs.Turned.{Turned};
+ghost use Rattle.tdb_steps.specs.Room.{FullAtTake};
 ghost use Rattle.tdb_openers.specs.Openers.{own_of, command_in};
 ghost use Rattle.tdb_openers.specs.Died.{HasDied};
 ghost use Rattle.tdb_commands.specs.InLaw.{law_opener, law_command, law_turn, options_of};
@@ -272,7 +273,8 @@ impl Openers {
     /// leaves.
     ///
     /// An opener that holds no record for writing before the turn only looks at the file, and so does one that isn't in
-    /// the middle of a change.
+    /// the middle of a change. The reply is `Full` exactly where the file has no room, up to the limit, for what the
+    /// command stores: at the turn in which it takes a record, with the length of the file and what it needs.
     ///
     /// Cost: that of the command's turn, and a search in the lock table; nothing is passed over that doesn't belong to
     /// it.
@@ -285,6 +287,8 @@ impl Openers {
         ensures bytes { OnOk result (IsTrue S.tells → BytesStand self.old (S.image s.old) → BytesStand self.new (S.image s.new)) }
         ensures turned { IfOk result (λ turn. IsTrue S.tells → BytesStand self.old (S.image s.old) → (x : Opener) (t : Task) → IsBusy self.old who x t
             → Turned (form_in self.old.header) (state_in self.old (S.image s.old)) (law_opener who) (law_of_task t) (law_turn turn) (state_in self.new (S.image s.new))) }
+        ensures full { IfOk result (λ turn. IsTrue S.tells → BytesStand self.old (S.image s.old) → (x : Opener) (t : Task) → IsBusy self.old who x t
+            → FullAtTake (form_in self.old.header) (S.image s.old) self.old.options.limit (law_of_task t) (law_turn turn)) }
         ensures calm { IsCalm S.Space s.old s.new self.old.table (law_opener who) }
         ensures spared { (x : Opener) (t : Task) → IsBusy self.old who x t → IsSparing S.Space s.old s.new (form_in self.old.header) (own_of self.old.options x) (law_of_task t) }
         ensures busy { IfOk result (λ turn. turn ≡ Turn.Step → (x : Opener) × (t : Task) × IsBusy self.new who x t) }

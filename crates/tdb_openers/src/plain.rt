@@ -11,6 +11,7 @@ ghost use Rattle.tdb_commands.specs.InLaw.{law_turn};
 ghost use Rattle.tdb_steps.specs.Stages.{IsIdle};
 ghost use Rattle.tdb_steps.specs.Machines.{begun};
 ghost use Rattle.tdb_steps.specs.LockTurns.{ActRightly};
+ghost use Rattle.tdb_steps.specs.Room.{FullAtTake};
 ghost use Rattle.tdb_openers.specs.Given.{IsWellHeld};
 ghost use Rattle.tdb_openers.specs.Openers.{AtRest, own_with, command_in};
 ghost use Rattle.tdb_openers.specs.Turning.{TurnsFile, TurnsImage, ImageBefore, resting};
@@ -32,7 +33,8 @@ use tdb_steps::Machine;
 /// A turn takes a lock of the command's row, or looks or changes the file. `Blocked` where another opener's lock
 /// conflicts: nothing changes then. With its reply the command lets go of what it took, and a change that it made
 /// raises the sequence number where the options say so. `Io` where the disk failed: then it keeps its locks. After a
-/// reply or `Io` the machine is before its first turn.
+/// reply or `Io` the machine is before its first turn. The reply is `Full` exactly where the file has no room, up to the
+/// limit, for what the command stores.
 ///
 /// Cost: a pass over the lock table where a lock is taken; else the chain of the key, the free list, or the writes,
 /// once each.
@@ -72,6 +74,10 @@ pub(crate) fn plain_turn<S: Space>(
         (S.image s.old) (S.image s.new) (is_stood stood_on.now)) }
     ensures rightly { IfOk result (λ turn. IsTrue S.tells → S.size s.old < 2 ^ 32 → (IsIdle machine.old.stage → ⊥)
         → ActRightly (S.form s.old) (S.image s.old) (S.image s.new) machine.old machine.new limit stood_on.now turn) }
+    ensures full { IfOk result (λ turn. IsTrue S.tells → S.size s.old < 2 ^ 32 → (options : Options) (live : Bool) (rest : AtRest) (n who : ℕ) (others : List HandPair)
+        → JobIsReady (S.form s.old) (own_with options live held.now rest) (resting rest) (Plain machine.old) n who owner (S.size s.old) locks.old
+        → ImageBefore (S.form s.old) (Plain machine.old) (S.image s.old) others
+        → FullAtTake (S.form s.old) (S.image s.old) limit (record { command = command_in (Plain machine.old); steps = n }) (law_turn turn)) }
     ensures ended { IfOk result (λ turn. (reply : Reply) → turn ≡ Turn.Done reply → machine.new ≡ begun machine.old.command machine.old.chain machine.old.seqnum) }
     ensures same { machine.new.command ≡ machine.old.command }
     ensures calm { (options : Options) (live : Bool) (rest : AtRest) (n who : ℕ)

@@ -14,6 +14,7 @@ ghost use Rattle.tdb_commands.specs.InLaw.{law_command, law_turn};
 ghost use Rattle.tdb_steps.specs.LockRows.{rows_of};
 ghost use Rattle.tdb_steps.specs.PlainCommands.{key_of, command_of};
 ghost use Rattle.tdb_steps.specs.Machines.{begun, IsShort};
+ghost use Rattle.tdb_steps.specs.Room.{FullAtTake};
 ghost use Rattle.tdb_openers.specs.Calm.{IsCalm, IsSparing};
 ghost use Rattle.tdb_openers.specs.Given.{IsWellHeld};
 ghost use Rattle.tdb_openers.specs.Openers.{AtRest, own_with, command_in};
@@ -97,6 +98,10 @@ impl PlainJob {
             → ImageBefore (S.form s.old) (Plain self.old) (S.image s.old) others
             → JobFiled (S.form s.old) (own_with options live held.now rest) (own_with options live held.now rest) (resting rest) v (Plain self.old) (Plain self.new) n who locks.old
             (S.image s.old) (S.image s.new) others stood_on.now (law_turn turn)) }
+        ensures full { IfOk result (λ turn. IsTrue S.tells → S.size s.old < 2 ^ 32 → (options : Options) (live : Bool) (rest : AtRest) (n who : ℕ) (others : List HandPair)
+            → JobIsReady (S.form s.old) (own_with options live held.now rest) (resting rest) (Plain self.old) n who owner (S.size s.old) locks.old
+            → ImageBefore (S.form s.old) (Plain self.old) (S.image s.old) others
+            → FullAtTake (S.form s.old) (S.image s.old) limit (record { command = command_in (Plain self.old); steps = n }) (law_turn turn)) }
         ensures calm { (options : Options) (live : Bool) (rest : AtRest) (n who : ℕ)
             → JobIsReady (S.form s.old) (own_with options live held.now rest) (resting rest) (Plain self.old) n who owner (S.size s.old) locks.old → IsCalm S.Space s.old s.new locks.old who }
         ensures spared { (options : Options) (live : Bool) (rest : AtRest) (n who : ℕ)

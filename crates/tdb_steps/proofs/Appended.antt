@@ -50,20 +50,20 @@ module _ (f : Form) (a b key more : List ℕ) (was whole : Option (List ℕ)) wh
   store_appended Stage.Ending next never order made others A K J = beside Stage.Ending next (Next.Done Reply.Ok) others order (λ x. absurd (never_true (sym x))) tt (made others A tt)
 
 -- an append goes on rightly
-starved_rightly : (n : ℕ) (place : Option Place) → UpdatesRightly n place (Next.Done Reply.Memory)
-starved_rightly n None = tt
-starved_rightly n (Some place) = tt
+starved_rightly : (a b : List ℕ) (n : ℕ) (place : Option Place) → UpdatesRightly a b n place (Next.Done Reply.Memory)
+starved_rightly a b n None = tt
+starved_rightly a b n (Some place) = tt
 
 module _ (f : Form) (a b key more : List ℕ) (limit : ℕ) (stood_on : List ℕ) where
-  pub look_rightly : (was whole : Option (List ℕ)) (next : Next) → Finds f a key (λ place. UpdatesRightly (length (unwrap_or whole more)) place next)
+  pub look_rightly : (was whole : Option (List ℕ)) (next : Next) → Finds f a key (λ place. UpdatesRightly a b (length (unwrap_or whole more)) place next)
       → ((hands : List HandPair) → AcceptWith f a hands → (next ≡ Next.Done Reply.Memory) ⊎ (unwrap_or whole more ≡ joined (map_of f a key) more)) → AppendsRightly f a b key more was limit stood_on Stage.Chained next
   look_rightly was whole next finds same J others A =
       let F = finds others A in (
         F.0,
         F.1,
         elim (same others A) [
-          | inl starved ↦ subst (λ x. UpdatesRightly (length (joined (map_of f a key) more)) F.0 x) (sym starved) (starved_rightly _ F.0)
-          | inr is ↦ subst (λ v. UpdatesRightly (length v) F.0 next) is F.2
+          | inl starved ↦ subst (λ x. UpdatesRightly a b (length (joined (map_of f a key) more)) F.0 x) (sym starved) (starved_rightly a b _ F.0)
+          | inr is ↦ subst (λ v. UpdatesRightly a b (length v) F.0 next) is F.2
         ],
       )
 

@@ -1,7 +1,8 @@
 -- What is said of a turn that ends a command is so after the sequence number was raised.
-use Rattle.std.proofs.Common.{◌≡◌, ℕ, inl, inr, Bool, false, List, Option, None, subst, sym}
+use Rattle.std.proofs.Common.{◌≡◌, ℕ, inl, inr, Bool, false, List, Option, None, Some, subst, sym}
 use Rattle.std.proofs.lemmas.Bool.{cases_Bool}
 use Rattle.tdb_space.specs.Form.{Form}
+use Rattle.tdb_chain.specs.declared.place.Place.{Place}
 use Rattle.tdb_space.specs.Spare.{Spare}
 use Rattle.tdb_locks.specs.declared.turn.Reply.{Reply}
 use Rattle.tdb_steps.specs.declared.plain.Plain.{Plain}
@@ -10,16 +11,20 @@ use Rattle.tdb_steps.specs.declared.stage.Stage.{Stage}
 use Rattle.tdb_steps.specs.declared.stage.WipeStage.TheVariants as Wipes
 use Rattle.tdb_steps.specs.declared.stage.Next.{Next}
 use Rattle.tdb_steps.specs.Stages.{is_done, IsIdle}
-use Rattle.tdb_steps.specs.Turns.{StoresRightly, DeletesRightly}
+use Rattle.tdb_steps.specs.Turns.{UpdatesRightly, StoresRightly, DeletesRightly}
 use Rattle.tdb_steps.specs.Order.{InOrder, StoreOrder, DeleteOrder}
 use Rattle.tdb_steps.specs.Machines.{begun, IsShort, IsFit, Fits, CommandRightly}
 use Rattle.tdb_steps.proofs.Lawful.{done_ok}
 
 -- where a command ends with Ok, nothing is said of the image after its turn
 module _ (f : Form) (a m b : List ℕ) (limit : ℕ) (stood_on : List ℕ) where
+  updated_ok : (n : ℕ) (place : Option Place) → UpdatesRightly a m n place (Next.Done Reply.Ok) → UpdatesRightly a b n place (Next.Done Reply.Ok)
+  updated_ok n None R = R
+  updated_ok n (Some place) R = R
+
   store_ok : (key : List ℕ) (value_len rec_len : ℕ) (stage : Stage) → StoreOrder stage (Next.Done Reply.Ok) → StoresRightly f a m key value_len rec_len limit stood_on stage (Next.Done Reply.Ok) → StoresRightly f a b key value_len rec_len limit stood_on stage (Next.Done Reply.Ok)
   store_ok key n r Stage.Begun order R = R
-  store_ok key n r Stage.Chained order R = R
+  store_ok key n r Stage.Chained order R = λ others A. let F = R others A in (F.0, F.1, updated_ok n F.0 F.2)
   store_ok key n r (Stage.Looked found) order R = R
   store_ok key n r (Stage.Listed found) order R = elim order [ ]
   store_ok key n r (Stage.Taken found hand) order R = elim order [ ]

@@ -14,7 +14,10 @@ pub mod Lawful
 pub mod Cases
 pub mod CommandMade
 pub mod Counted
+pub mod Short
 pub mod Turning
 pub mod Rowed
 pub mod WipeMade
 pub mod Shifts
+pub mod FoundOnce
+pub mod Room

@@ -35,7 +35,7 @@ use Rattle.tdb_steps.specs.PlainCommands.{key_of, asked_of, command_of, reply_of
 use Rattle.tdb_steps.specs.LockRows.{strength_of, locks_in, rows_of, reader_rows, writer_rows, wipe_rows, row_at}
 use Rattle.tdb_steps.specs.Holdings.{KeptBeside, HoldsBefore}
 use Rattle.tdb_steps.specs.Order.{InOrder, LookOrder, StoreOrder, DeleteOrder, WipeOrder, LookAfter, StoreAfter, DeleteAfter, WipeAfter, IsAfter}
-use Rattle.tdb_steps.specs.Machines.{Doing, begun, MapTurned, Counted, DoingKnows, CommandMakes, CommandRightly, IsOn, MachineTurned}
+use Rattle.tdb_steps.specs.Machines.{Doing, begun, MapTurned, Counted, WantsRecord, DoingKnows, CommandMakes, CommandRightly, IsOn, MachineTurned}
 use Rattle.tdb_steps.specs.LockTurns.{LockLed, ActRightly}
 use Rattle.tdb_locks.specs.declared.turn.Turn.{Turn}
 use Rattle.tdb_locks.specs.declared.turn.Turn.TheVariants as Turns
@@ -54,6 +54,7 @@ use Rattle.tdb_steps.proofs.Cases.TakesCase.{take_on, take_full, take_starves}
 use Rattle.tdb_steps.proofs.Cases.LinksCase.{link_over, link_ends}
 use Rattle.tdb_steps.proofs.Cases.UnlinksCase.{unlink_on, unlink_starves}
 use Rattle.tdb_steps.proofs.Lawful.{store_changed}
+use Rattle.tdb_steps.proofs.Short.{first_wants, wants_on}
 
 -- the lock of the free list, in the row of a change
 abbrev free_row : LockRow
@@ -294,7 +295,7 @@ next_after Wipe n stage onto is order = wipe_after n stage onto is order
 
 -- a command that has had no turn knows nothing of an image
 begun_knows : (f : Form) (b : List ℕ) (command : Plain) (chain : ℕ) (seqnum : Bool) → DoingKnows f b (begun command chain seqnum)
-begun_knows f b command chain seqnum = record { found = tt; joined = λ key value is. tt }
+begun_knows f b command chain seqnum = record { found = tt; joined = λ key value is. tt; wants = tt }
 
 -- the map and the number of an image in which the number was raised
 moved_map : (f : Form) (b x : List ℕ) (c : Law.MapCommand) (n : ℕ) (m : Map) (turn : Law.Turn) → ((key : List ℕ) → map_of f x key ≡ map_of f b key) → MapTurned f b c n m turn → MapTurned f x c n m turn
@@ -307,7 +308,7 @@ moved_map f b x c n m turn same (map_is_full len need is fills late before done 
 moved_map f b x c n m turn same (map_finishes is after M) = map_finishes is after (λ k. M k ∙ sym (same k))
 
 -- a reply that a world calls done is Ok
-done_alike : (r : Reply) → is_done r ≡ Law.is_done (reply_of r)
+pub done_alike : (r : Reply) → is_done r ≡ Law.is_done (reply_of r)
 done_alike Reply.Ok = refl
 done_alike (Reply.Value v) = refl
 done_alike (Reply.Pair k v) = refl
@@ -333,9 +334,9 @@ module _ (f : Form) (a m b : List ℕ) (command : Plain) (chain : ℕ) (seqnum :
   abbrev Was : Doing
   Was = record { command = command; chain = chain; seqnum = seqnum; stage = stage; whole = was }
 
-  pub stepped_on : (onto : Stage) → CommandMade f a m command whole n stage (Next.Step onto) others
+  pub stepped_on : (onto : Stage) → CommandMade f a m command whole n stage (Next.Step onto) others → WantsRecord f m command onto
       → MachineTurned f a m Was (record { command = command; chain = chain; seqnum = seqnum; stage = onto; whole = whole }) n Law.Turn.Step others
-  stepped_on onto T = record { accepted = T.accepted; knows = record { found = T.knows; joined = T.joined }; only = T.only; map = T.map; number = T.number; walks = T.walks }
+  stepped_on onto T wants = record { accepted = T.accepted; knows = record { found = T.knows; joined = T.joined; wants = wants }; only = T.only; map = T.map; number = T.number; walks = T.walks }
 
   pub ended_so : (r : Reply) → CommandMade f a m command whole n stage (Next.Done r) others → Counted f m b (is_done r && (map_changes (command_of command) && seqnum)) others
       → MachineTurned f a b Was (begun command chain seqnum) n (Law.Turn.Ends (reply_of r)) others
@@ -349,33 +350,9 @@ module _ (f : Form) (a m b : List ℕ) (command : Plain) (chain : ℕ) (seqnum :
         (walks_stay f a m b (key_of command) stands (is_changed stage) (is_done r) others others T.accepted C.stay (home_below f (key_of command) T.accepted.some) (T.walks on stands stood tt));
   }
 
--- the same of a machine, whose stage and joined bytes were taken out for the turn and put back after it, and the number
--- raised
-module _ (f : Form) (a m : List ℕ) (command : Plain) (chain : ℕ) (seqnum : Bool) (n : ℕ) (stage taken : Stage) (was out whole : Option (List ℕ)) (led : Next) (d e : Doing) (others : List HandPair) (before : d ≡ record { command = command; chain = chain; seqnum = seqnum; stage = stage; whole = was }) (stage_out : taken ≡ stage) (whole_out : out ≡ was) (order : InOrder command taken led) (made : CommandMakes f a m command out whole taken led) where
-  -- what the turn from a stage makes of a machine, given what is so before it
-  abbrev From : List ℕ → Doing → Doing → Law.Turn → Type 0
-  From b x y turn = IsAfter x.command x.stage n → MayBeOut x.stage others → AcceptWith f a (hands_in x.stage ++ others) → DoingKnows f a x → MachineTurned f a b x y n turn others
-
-  turned_so : (next : Next) → led ≡ next → IsAfter command stage n → MayBeOut stage others → AcceptWith f a (hands_in stage ++ others) → DoingKnows f a (record { command = command; chain = chain; seqnum = seqnum; stage = stage; whole = was }) → CommandMade f a m command whole n stage next others
-  turned_so next on is may A K = command_made command f a m was whole n stage next others is (subst (λ x. InOrder command x next) stage_out (subst (InOrder command taken) on order)) may A K.found K.joined
-      (subst (λ x. CommandMakes f a m command was whole x next) stage_out (subst (λ w. CommandMakes f a m command w whole taken next) whole_out (subst (CommandMakes f a m command out whole taken) on made)))
-
-  pub act_stepped : (onto : Stage) → led ≡ Next.Step onto → e ≡ record { command = command; chain = chain; seqnum = seqnum; stage = onto; whole = whole } → From m d e Law.Turn.Step
-  act_stepped onto on now =
-      subst (λ x. From m x e Law.Turn.Step) (sym before)
-      (subst (λ y. From m (record { command = command; chain = chain; seqnum = seqnum; stage = stage; whole = was }) y Law.Turn.Step) (sym now)
-      (λ is may A K. stepped_on f a m m command chain seqnum n stage was whole others onto (turned_so (Next.Step onto) on is may A K)))
-
-  pub act_ended : (b : List ℕ) (r : Reply) → led ≡ Next.Done r → e ≡ begun command chain seqnum
-      → ((hands : List HandPair) → AcceptWith f m hands → Counted f m b (is_done r && (map_changes (command_of command) && seqnum)) hands) → From b d e (Law.Turn.Ends (reply_of r))
-  act_ended b r on now counted =
-      subst (λ x. From b x e (Law.Turn.Ends (reply_of r))) (sym before)
-      (subst (λ y. From b (record { command = command; chain = chain; seqnum = seqnum; stage = stage; whole = was }) y (Law.Turn.Ends (reply_of r))) (sym now)
-      (λ is may A K. let T = turned_so (Next.Done r) on is may A K in ended_so f a m b command chain seqnum n stage was whole others r T (counted others T.accepted)))
-
--- so does such a turn of a machine go on rightly
+-- a turn of a machine, whose stage and joined bytes were taken out for it and put back after it, goes on rightly
 module _ (f : Form) (a b : List ℕ) (command : Plain) (chain : ℕ) (seqnum : Bool) (stage taken : Stage) (was out : Option (List ℕ)) (limit : ℕ) (stood_on : List ℕ) (led : Next) (d e : Doing) (before : d ≡ record { command = command; chain = chain; seqnum = seqnum; stage = stage; whole = was }) (stage_out : taken ≡ stage) (whole_out : out ≡ was) (rightly : CommandRightly f a b command out limit stood_on taken led) where
-  right_so : (next : Next) → led ≡ next → CommandRightly f a b command was limit stood_on stage next
+  pub right_so : (next : Next) → led ≡ next → CommandRightly f a b command was limit stood_on stage next
   right_so next on = subst (λ x. CommandRightly f a b command was limit stood_on x next) stage_out (subst (λ w. CommandRightly f a b command w limit stood_on taken next) whole_out (subst (CommandRightly f a b command out limit stood_on taken) on rightly))
 
   pub rightly_stepped : (onto : Stage) → led ≡ Next.Step onto → e.stage ≡ onto → ActRightly f a b d e limit stood_on Turns.Step
@@ -383,6 +360,37 @@ module _ (f : Form) (a b : List ℕ) (command : Plain) (chain : ℕ) (seqnum : B
 
   pub rightly_ended : (r : Reply) → led ≡ Next.Done r → ActRightly f a b d e limit stood_on (Turns.Done r)
   rightly_ended r on = subst (λ x. ActRightly f a b x e limit stood_on (Turns.Done r)) (sym before) (right_so (Next.Done r) on)
+
+-- and it makes of an image what the command does, and the number is raised
+module _ (f : Form) (a m : List ℕ) (command : Plain) (chain : ℕ) (seqnum : Bool) (n : ℕ) (stage taken : Stage) (was out whole : Option (List ℕ)) (led : Next) (d e : Doing) (others : List HandPair) (before : d ≡ record { command = command; chain = chain; seqnum = seqnum; stage = stage; whole = was }) (stage_out : taken ≡ stage) (whole_out : out ≡ was) (order : InOrder command taken led) (made : CommandMakes f a m command out whole taken led) where
+  -- what the turn from a stage makes of a machine, given what is so before it
+  abbrev From : List ℕ → Doing → Doing → Law.Turn → Type 0
+  From b x y turn = IsAfter x.command x.stage n → MayBeOut x.stage others → AcceptWith f a (hands_in x.stage ++ others) → DoingKnows f a x → MachineTurned f a b x y n turn others
+
+  ordered : (next : Next) → led ≡ next → InOrder command stage next
+  ordered next on = subst (λ x. InOrder command x next) stage_out (subst (InOrder command taken) on order)
+
+  makes_so : (next : Next) → led ≡ next → CommandMakes f a m command was whole stage next
+  makes_so next on = subst (λ x. CommandMakes f a m command was whole x next) stage_out (subst (λ w. CommandMakes f a m command w whole taken next) whole_out (subst (CommandMakes f a m command out whole taken) on made))
+
+  turned_so : (next : Next) → led ≡ next → IsAfter command stage n → MayBeOut stage others → AcceptWith f a (hands_in stage ++ others) → DoingKnows f a (record { command = command; chain = chain; seqnum = seqnum; stage = stage; whole = was }) → CommandMade f a m command whole n stage next others
+  turned_so next on is may A K = command_made command f a m was whole n stage next others is (ordered next on) may A K.found K.joined (makes_so next on)
+
+  pub act_stepped : (limit : ℕ) (stood_on : List ℕ) → CommandRightly f a m command out limit stood_on taken led → (onto : Stage) → led ≡ Next.Step onto → e ≡ record { command = command; chain = chain; seqnum = seqnum; stage = onto; whole = whole }
+      → From m d e Law.Turn.Step
+  act_stepped limit stood_on rightly onto on now =
+      subst (λ x. From m x e Law.Turn.Step) (sym before)
+      (subst (λ y. From m (record { command = command; chain = chain; seqnum = seqnum; stage = stage; whole = was }) y Law.Turn.Step) (sym now)
+      (λ is may A K. stepped_on f a m m command chain seqnum n stage was whole others onto (turned_so (Next.Step onto) on is may A K)
+      (wants_on f a m limit stood_on others command was whole stage onto (ordered (Next.Step onto) on) A K.found K.joined (makes_so (Next.Step onto) on)
+      (right_so f a m command chain seqnum stage taken was out limit stood_on led d e before stage_out whole_out rightly (Next.Step onto) on) K.wants)))
+
+  pub act_ended : (b : List ℕ) (r : Reply) → led ≡ Next.Done r → e ≡ begun command chain seqnum
+      → ((hands : List HandPair) → AcceptWith f m hands → Counted f m b (is_done r && (map_changes (command_of command) && seqnum)) hands) → From b d e (Law.Turn.Ends (reply_of r))
+  act_ended b r on now counted =
+      subst (λ x. From b x e (Law.Turn.Ends (reply_of r))) (sym before)
+      (subst (λ y. From b (record { command = command; chain = chain; seqnum = seqnum; stage = stage; whole = was }) y (Law.Turn.Ends (reply_of r))) (sym now)
+      (λ is may A K. let T = turned_so (Next.Done r) on is may A K in ended_so f a m b command chain seqnum n stage was whole others r T (counted others T.accepted)))
 
 -- the stages from which a turn takes a lock
 pub data LockStage (stage : Stage) : Type 0 where
@@ -498,11 +506,11 @@ module _ (f : Form) (a : List ℕ) (command : Plain) (chain : ℕ) (seqnum : Boo
 
   led : (stage : Stage) → LockStage stage → Led stage
   led stage (lock_first at) = subst Led (sym at) (λ is A K. stepped_on f a a a command chain seqnum n Stage.Begun whole whole others (first_stage command)
-      (command_made command f a a whole whole n Stage.Begun (Next.Step (first_stage command)) others is (begun_order command) tt A K.found K.joined (begun_makes f a command whole)))
+      (command_made command f a a whole whole n Stage.Begun (Next.Step (first_stage command)) others is (begun_order command) tt A K.found K.joined (begun_makes f a command whole)) (first_wants f a command))
   led stage (lock_second found at) = subst Led (sym at) (λ is A K. stepped_on f a a a command chain seqnum n (Stage.Looked found) whole whole others (Stage.Listed found)
-      (command_made command f a a whole whole n (Stage.Looked found) (Next.Step (Stage.Listed found)) others is (looked_order command n found is) tt A K.found K.joined (looked_makes f a command whole n found is)))
+      (command_made command f a a whole whole n (Stage.Looked found) (Next.Step (Stage.Listed found)) others is (looked_order command n found is) tt A K.found K.joined (looked_makes f a command whole n found is)) K.wants)
   led stage (lock_both at) = subst Led (sym at) (λ is A K. stepped_on f a a a command chain seqnum n (Stage.Wiping Wipes.Records) whole whole others (Stage.Wiping Wipes.FreeList)
-      (command_made command f a a whole whole n (Stage.Wiping Wipes.Records) (Next.Step (Stage.Wiping Wipes.FreeList)) others is (wiping_order command n is) tt A K.found K.joined (wiping_makes f a command whole n is)))
+      (command_made command f a a whole whole n (Stage.Wiping Wipes.Records) (Next.Step (Stage.Wiping Wipes.FreeList)) others is (wiping_order command n is) tt A K.found K.joined (wiping_makes f a command whole n is)) tt)
 
   unchanged : (stage : Stage) → LockStage stage → IsAfter command stage n → map_changed (command_of command) n ≡ false
   unchanged stage (lock_first at) is = begun_unchanged command n (subst (λ x. IsAfter command x n) at is)

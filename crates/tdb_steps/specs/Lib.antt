@@ -10,3 +10,4 @@ pub mod Order
 pub mod Machines
 pub mod LockTurns
 pub mod Shifts
+pub mod Room

@@ -1,7 +1,8 @@
 -- A machine: what a command has between two of its turns, what it needs and knows, and what a turn makes of an image.
 use Rattle.std.specs.Prelude.{ℕ, ◌+◌, ◌^◌, ◌≡◌, ◌≤◌, ◌<◌, ◌⊎◌, List, ◌++◌, length, Bool, false, true, ◌&&◌, Option, None, IfSome, unwrap_or}
+use Rattle.tdb_chain.specs.declared.place.Place.{Place}
 use Rattle.tdb_space.specs.Form.{Form}
-use Rattle.tdb_space.specs.Pairs.{home}
+use Rattle.tdb_space.specs.Pairs.{home, map_of}
 use Rattle.tdb_space.specs.NewRecord.{rec_len_for}
 use Rattle.tdb_space.specs.Extents.{HandPair}
 use Rattle.tdb_space.specs.Accepted.{AcceptWith}
@@ -20,10 +21,11 @@ use Rattle.tdb_law.specs.Ends.{map_last, map_ends}
 use Rattle.tdb_steps.specs.declared.plain.Plain.{Plain}
 use Rattle.tdb_steps.specs.declared.plain.Plain.TheVariants.{Fetch, Has, Store, Append, Delete, Wipe}
 use Rattle.tdb_steps.specs.declared.stage.Stage.{Stage}
-use Rattle.tdb_steps.specs.declared.stage.Stage.TheVariants.{Begun, Ending}
+use Rattle.tdb_steps.specs.declared.stage.Stage.TheVariants.{Begun, Looked, Listed, Ending}
 use Rattle.tdb_steps.specs.declared.stage.Next.{Next}
 use Rattle.tdb_steps.specs.Turns.{number_of, Makes, AppendMakes, WipeMakes, StoresRightly, AppendsRightly, DeletesRightly, WipesRightly, LooksRightly}
-use Rattle.tdb_steps.specs.Stages.{hands_in, is_done, is_changed, IsIdle, Knows, IsJoined, OfLook, OfStore, OfDelete, OfWipe}
+use Rattle.tdb_steps.specs.Asked.{joined}
+use Rattle.tdb_steps.specs.Stages.{hands_in, is_done, is_changed, IsIdle, Knows, IsTooShort, IsJoined, OfLook, OfStore, OfDelete, OfWipe}
 use Rattle.tdb_steps.specs.PlainCommands.{IsKeyed, key_of, asked_of, command_of, IsMapOf}
 use Rattle.tdb_steps.specs.Order.{IsAfter}
 use Rattle.tdb_steps.specs.Walks.{StandInChains, SparesStood, WalksKept}
@@ -73,10 +75,23 @@ pub record Fits (d : Doing) (size : ℕ) (spare : Spare) : Type 0 where
 abbrev pub HasJoined : Form → List ℕ → Plain → Option (List ℕ) → Stage → Type 0
 HasJoined f img command whole stage = (key value : List ℕ) → command ≡ Append key value → IsJoined f img key value whole stage
 
+-- The record that a store or an append has found is too short for the value that it is to leave its key: so it is from
+-- the look to the take.
+abbrev pub CantUpdate : Form → List ℕ → Plain → Option Place → Type 0
+CantUpdate f img (Store key value flag) found = IsTooShort (length value) found
+CantUpdate f img (Append key value) found = IsTooShort (length (joined (map_of f img key) value)) found
+CantUpdate f img command found = Unit {0}
+
+abbrev pub WantsRecord : Form → List ℕ → Plain → Stage → Type 0
+WantsRecord f img command (Looked found) = CantUpdate f img command found
+WantsRecord f img command (Listed found) = CantUpdate f img command found
+WantsRecord f img command stage = Unit {0}
+
 -- what a machine knows of an image
 pub record DoingKnows (f : Form) (img : List ℕ) (d : Doing) : Type 0 where
   pub found : Knows f img (key_of d.command) (asked_of d.command) d.stage
   pub joined : HasJoined f img d.command d.whole d.stage
+  pub wants : WantsRecord f img d.command d.stage
 
 -- What a machine knows between two of its turns it still knows after any change that leaves the chain of its key.
 abbrev pub MachineKnowledgeStays : Type 0

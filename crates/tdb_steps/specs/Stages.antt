@@ -1,5 +1,5 @@
 -- What a stage of a command holds, knows and needs.
-use Rattle.std.specs.Prelude.{◌≡◌, ℕ, ◌+◌, ◌/◌, ◌≤◌, Bool, true, false, List, [], ◌∷◌, Option, None, Some, IfSome, unwrap_or}
+use Rattle.std.specs.Prelude.{◌≡◌, ℕ, ◌+◌, ◌/◌, ◌≤◌, ◌<◌, Bool, true, false, List, [], ◌∷◌, Option, None, Some, IfSome, unwrap_or}
 use Rattle.tdb_space.specs.Form.{Form}
 use Rattle.tdb_space.specs.Pairs.{map_of}
 use Rattle.tdb_space.specs.Extents.{HandPair}
@@ -46,6 +46,11 @@ Knows f img key asked _ = Unit {0}
 abbrev pub KnowsAfter : Form → List ℕ → List ℕ → Asked → Next → Type 0
 KnowsAfter f img key asked (Step stage) = Knows f img key asked stage
 KnowsAfter f img key asked (Done reply) = Unit {0}
+
+-- the record that was found, if there is one, is too short to take a value of so many bytes where it stands
+abbrev pub IsTooShort : ℕ → Option Place → Type 0
+IsTooShort n None = Unit {0}
+IsTooShort n (Some place) = place.rec.rec_len < place.rec.key_len + n + 4
 
 -- From its look to its link an append has the bytes that it writes, which it has joined, or which are those to be
 -- appended: what the key has in an image, and those to be appended behind it.

@@ -91,13 +91,13 @@ LinksRightly f a hand stood_on (Some place) next = (key : List ℕ) (others : Li
     → (Contains stood_on place.off × (next ≡ Step Ending)) ⊎ ((Contains stood_on place.off → ⊥) × (next ≡ Step (Changed (hand_at place))))
 
 -- A store updates the record that it found where it stands exactly where the value fits, and else goes on with what it
--- found.
-abbrev pub UpdatesRightly : ℕ → Option Place → Next → Type 0
-UpdatesRightly n None (Step stage) = stage ≡ Looked None
-UpdatesRightly n (Some place) (Step stage) = (stage ≡ Looked (Some place)) × (place.rec.rec_len < place.rec.key_len + n + 4)
-UpdatesRightly n None (Done Reply.Ok) = ⊥
-UpdatesRightly n (Some place) (Done Reply.Ok) = place.rec.key_len + n + 4 ≤ place.rec.rec_len
-UpdatesRightly n place _ = Unit {0}
+-- found, in the same image.
+abbrev pub UpdatesRightly : List ℕ → List ℕ → ℕ → Option Place → Next → Type 0
+UpdatesRightly a b n None (Step stage) = (stage ≡ Looked None) × (b ≡ a)
+UpdatesRightly a b n (Some place) (Step stage) = (stage ≡ Looked (Some place)) × (place.rec.rec_len < place.rec.key_len + n + 4) × (b ≡ a)
+UpdatesRightly a b n None (Done Reply.Ok) = ⊥
+UpdatesRightly a b n (Some place) (Done Reply.Ok) = place.rec.key_len + n + 4 ≤ place.rec.rec_len
+UpdatesRightly a b n place _ = Unit {0}
 
 -- A delete marks the record that it found as dead exactly where a cursor stands on it, and else goes on with it.
 abbrev pub MarksRightly : List ℕ → Option Place → Next → Type 0
@@ -132,7 +132,7 @@ DeletesRightly f a b key stood_on Ending next = next ≡ Done Reply.Ok
 -- the link, then the give where an old record was taken out, and the end.
 abbrev pub StoresRightly : Form → List ℕ → List ℕ → List ℕ → ℕ → ℕ → ℕ → List ℕ → Stage → Next → Type 0
 StoresRightly f a b key value_len rec_len limit stood_on Begun next = next ≡ Step Chained
-StoresRightly f a b key value_len rec_len limit stood_on Chained next = Finds f a key (λ place. UpdatesRightly value_len place next)
+StoresRightly f a b key value_len rec_len limit stood_on Chained next = Finds f a key (λ place. UpdatesRightly a b value_len place next)
 StoresRightly f a b key value_len rec_len limit stood_on (Looked found) next = next ≡ Step (Listed found)
 StoresRightly f a b key value_len rec_len limit stood_on (Listed found) next = TakesRightly f a b rec_len limit found next
 StoresRightly f a b key value_len rec_len limit stood_on (Taken found hand) next = LinksRightly f a hand stood_on found next

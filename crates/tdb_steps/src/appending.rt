@@ -69,7 +69,7 @@ pub fn look_to_append<S: Space>(
     ensures made { IfOk result (λ next. IsTrue S.tells → Makes (S.form s.old) (S.image s.old) (S.image s.new) key.now (appends more.now) Stage.Chained next) }
     ensures joined { IfOk result (λ next. IsTrue S.tells → (hands : List HandPair) → AcceptWith (S.form s.old) (S.image s.old) hands
         → (next ≡ Next.Done Reply.Memory) ⊎ (unwrap_or whole.new more.now ≡ joined (map_of (S.form s.old) (S.image s.old) key.now) more.now)) }
-    ensures rightly { IfOk result (λ next. IsTrue S.tells → Finds (S.form s.old) (S.image s.old) key.now (λ place. UpdatesRightly (length (unwrap_or whole.new more.now)) place next)) }
+    ensures rightly { IfOk result (λ next. IsTrue S.tells → Finds (S.form s.old) (S.image s.old) key.now (λ place. UpdatesRightly (S.image s.old) (S.image s.new) (length (unwrap_or whole.new more.now)) place next)) }
     ensures order { IfOk result LooksOn }
     ensures room { IfOk result (CanCount (S.spare s.new)) }
     ensures short { length (unwrap_or whole.new more.now) < 2 ^ 33 }

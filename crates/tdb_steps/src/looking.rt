@@ -26,7 +26,7 @@ pub(crate) fn update_found<S: Space>(s: &mut S, place: Place, value: &[u8]) -> R
     ensures made { IfOk result (λ next. IsTrue S.tells → (key : List ℕ) (flag : Flag) (others : List HandPair) → AcceptWith (S.form s.old) (S.image s.old) others
         → IsKnown (S.form s.old) (S.image s.old) key (stores flag value.now) (Some place)
         → TurnMade (S.form s.old) (S.image s.old) (S.image s.new) key (stores flag value.now) Stage.Chained next others) }
-    ensures rightly { IfOk result (UpdatesRightly (length value.now) (Some place)) }
+    ensures rightly { IfOk result (UpdatesRightly (S.image s.old) (S.image s.new) (length value.now) (Some place)) }
     ensures order { IfOk result LooksOn }
     ensures room { IfOk result (CanCount (S.spare s.new)) }
     ensures leads { (n : ℕ) → IfOk result (Leads (λ stage. OfStore n stage (S.size s.new) (S.spare s.new))) }
@@ -79,7 +79,7 @@ pub(crate) fn look_to_store<S: Space>(
     requires value { length value.now < 2 ^ 33 }
     requires chains { 0 < (S.form s.old).chains }
     ensures made { IfOk result (λ next. IsTrue S.tells → Makes (S.form s.old) (S.image s.old) (S.image s.new) key.now (stores flag value.now) Stage.Chained next) }
-    ensures rightly { IfOk result (λ next. IsTrue S.tells → Finds (S.form s.old) (S.image s.old) key.now (λ place. UpdatesRightly (length value.now) place next)) }
+    ensures rightly { IfOk result (λ next. IsTrue S.tells → Finds (S.form s.old) (S.image s.old) key.now (λ place. UpdatesRightly (S.image s.old) (S.image s.new) (length value.now) place next)) }
     ensures order { IfOk result LooksOn }
     ensures room { IfOk result (CanCount (S.spare s.new)) }
     ensures leads { (n : ℕ) → IfOk result (Leads (λ stage. OfStore n stage (S.size s.new) (S.spare s.new))) }

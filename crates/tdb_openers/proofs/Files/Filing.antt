@@ -101,17 +101,17 @@ module _ (f : Form) (options : Options) (xs ys : List Opener) (ps : List Piece) 
     (W : WorldStands f options xs ps a size) (F : FileStands f xs a) (P : IsPut xs who y ys) (K : KeepsFile f xs ys ps a b who y) where
   stage_knows : (command : Plain) (chain : ℕ) (seqnum : Bool) (stage : Stage) (whole : Option (List ℕ)) (n : ℕ) → IsAfter command stage n → (Writes command n → ChainStays f a b (home f (key_of command)))
       → DoingKnows f a (doing command chain seqnum stage whole) → DoingKnows f b (doing command chain seqnum stage whole)
-  stage_knows command chain seqnum Begun whole n is stays known = record { found = tt; joined = λ key value e. tt }
-  stage_knows command chain seqnum Chained whole n is stays known = record { found = tt; joined = λ key value e. tt }
+  stage_knows command chain seqnum Begun whole n is stays known = record { found = tt; joined = λ key value e. tt; wants = tt }
+  stage_knows command chain seqnum Chained whole n is stays known = record { found = tt; joined = λ key value e. tt; wants = tt }
   stage_knows command chain seqnum (Looked found) whole n is stays known =
       machine_knowledge_stays f a b (doing command chain seqnum (Looked found) whole) _ _ F.accepted K.accepted K.longer (stays (looked_writes command found n is)) known
   stage_knows command chain seqnum (Listed found) whole n is stays known =
       machine_knowledge_stays f a b (doing command chain seqnum (Listed found) whole) _ _ F.accepted K.accepted K.longer (stays (listed_writes command found n is)) known
   stage_knows command chain seqnum (Taken found hand) whole n is stays known =
       machine_knowledge_stays f a b (doing command chain seqnum (Taken found hand) whole) _ _ F.accepted K.accepted K.longer (stays (taken_writes command found hand n is)) known
-  stage_knows command chain seqnum (Changed hand) whole n is stays known = record { found = tt; joined = λ key value e. tt }
-  stage_knows command chain seqnum (Wiping locked) whole n is stays known = record { found = tt; joined = λ key value e. tt }
-  stage_knows command chain seqnum Ending whole n is stays known = record { found = tt; joined = λ key value e. tt }
+  stage_knows command chain seqnum (Changed hand) whole n is stays known = record { found = tt; joined = λ key value e. tt; wants = tt }
+  stage_knows command chain seqnum (Wiping locked) whole n is stays known = record { found = tt; joined = λ key value e. tt; wants = tt }
+  stage_knows command chain seqnum Ending whole n is stays known = record { found = tt; joined = λ key value e. tt; wants = tt }
 
   job_knows : (o : ℕ) → o ≢ who → (z : Own) (s : Spot) (job : Job) (n : ℕ) → Works f ps size o z s job n → JobKnows f a job → JobKnows f b job
   job_knows o ne z s (Jobs.Refused command reply) n J known = tt

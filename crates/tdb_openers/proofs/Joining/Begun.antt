@@ -51,7 +51,7 @@ begun_stage Wipe stage is = wipe_begun stage is
 -- it knows nothing
 bare_stage : (f : Form) (img : List ℕ) (command : Plain) (chain : ℕ) (seqnum : Bool) (stage : Stage) (whole : Option (List ℕ)) → IsAfter command stage 0 → DoingKnows f img (record { command = command; chain = chain; seqnum = seqnum; stage = stage; whole = whole })
 bare_stage f img command chain seqnum stage whole is =
-    subst (λ z. DoingKnows f img (record { command = command; chain = chain; seqnum = seqnum; stage = z; whole = whole })) (sym (begun_stage command stage is)) (record { found = tt; joined = λ key value e. tt })
+    subst (λ z. DoingKnows f img (record { command = command; chain = chain; seqnum = seqnum; stage = z; whole = whole })) (sym (begun_stage command stage is)) (record { found = tt; joined = λ key value e. tt; wants = tt })
 
 module _ (f : Form) (x : Own) (size : ℕ) where
   pub bare_hands : (job : Job) → JobStands f x job 0 size → hands_of_job job ≡ []

@@ -47,7 +47,7 @@ use Rattle.tdb_openers.specs.Jobs.{task_after}
 use Rattle.tdb_openers.specs.Turning.{TurnsWalk}
 use Rattle.tdb_openers.specs.Cursors.{is_stood, StageSpares, TaskSpares, CommandClears, CursorsBeside, LeavesCursors}
 use Rattle.tdb_openers.proofs.Joining.Begun.{begun_stage}
-use Rattle.tdb_openers.proofs.PlainTurns.FoundOnce.{found_once}
+use Rattle.tdb_steps.proofs.FoundOnce.{found_once}
 use Rattle.tdb_openers.proofs.Joining.Recounted.{recounted, turn_is, same_done}
 use Rattle.tdb_openers.proofs.Walks.StillWalks.{still_walk}
 

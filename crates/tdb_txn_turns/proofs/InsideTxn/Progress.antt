@@ -165,7 +165,7 @@ of_begun d e = record { command = refl; counts = refl; after = subst (λ s. IsAf
 pub progress_begins : (f : Form) (a : List ℕ) (c : Plain) (chain : ℕ) (seqnum : Bool) → AcceptWith f a [] → Progress f a a c (begun c chain seqnum) 0
 progress_begins f a c chain seqnum A = record {
   accepted = A;
-  knows = record { found = tt; joined = λ key value e. tt };
+  knows = record { found = tt; joined = λ key value e. tt; wants = tt };
   only = changes_none f a (λ k. Unit {0});
   number = refl;
   map = subst (λ p. MapSoFar p f a (command_of c) (image_map f a)) (sym (unchanged (command_of c))) (λ k. image_answers f a k);

@@ -13,6 +13,7 @@ use Rattle.tdb_openers.specs.Turning.{resting}
 use Rattle.tdb_openers.proofs.PlainTurns.Calm.{plain_calm, plain_spared}
 use Rattle.tdb_openers.proofs.PlainTurns.PlainJob.{left_image}
 use Rattle.tdb_openers.proofs.PlainTurns.PlainCursors.{plain_cursors}
+use Rattle.tdb_openers.proofs.PlainTurns.Fullness.{plain_full}
 use Rattle.tdb_openers.proofs.plain.plain_turn.Goals as goal
 
 -- what holds of an answer by four facts, by three, and by two
@@ -90,6 +91,15 @@ returns-clause-cursors g c =
     plain_cursors f (g.S.Space.image c.args.s.now) (g.S.Space.image c.step.new.s) c.args.machine.now c.step.new.self n turn others (own_with options live c.args.held.now rest) c.args.limit c.args.stood_on.now
     I.accepted I.knows (made told small n others is I.may_be_out I.accepted I.knows) is (leaves n is) refl J.stands.granted (λ quiet. (c.step.ensures.idle quiet).image) (rightly told small) C)
     c.step.ensures.made c.step.ensures.leaves c.step.ensures.rightly
+
+pub returns-clause-full : goal.returns-clause-full
+returns-clause-full g c =
+    by_three c.step.result _ _ _ _
+    (λ turn made row rightly told small options live rest n who others J I.
+    let is = J.stands.after in
+    plain_full (g.S.Space.form c.args.s.now) (g.S.Space.image c.args.s.now) (g.S.Space.image c.step.new.s) c.args.machine.now c.step.new.self n c.args.limit c.args.stood_on.now others turn is I.accepted I.knows
+    (row n is) (made told small n others is I.may_be_out I.accepted I.knows) (rightly told small))
+    c.step.ensures.made c.step.ensures.row c.step.ensures.rightly
 
 -- a machine that isn't quiet, and may change the map, holds its chain for writing
 pub returns-clause-calm : goal.returns-clause-calm

@@ -40,7 +40,7 @@ returns-in-Chained-clause-rightly g c =
     let more = c.args.more.now in
     let whole = c.look_to_append.new.whole in
     subst (λ then. IfOk c.look_to_append.result (λ next. IsTrue g.S.Space.tells → g.S.Space.size c.args.s.now < 2 ^ 32 → AppendsRightly f a b key more c.args.whole.now c.args.limit c.args.stood_on.now then next)) (sym c.in-Chained.is)
-    (of_both c.look_to_append.result (λ next. IsTrue g.S.Space.tells → Finds f a key (λ place. UpdatesRightly (length (unwrap_or whole more)) place next))
+    (of_both c.look_to_append.result (λ next. IsTrue g.S.Space.tells → Finds f a key (λ place. UpdatesRightly a b (length (unwrap_or whole more)) place next))
     (λ next. IsTrue g.S.Space.tells → (hands : List HandPair) → AcceptWith f a hands → (next ≡ Next.Done Reply.Memory) ⊎ (unwrap_or whole more ≡ joined (map_of f a key) more))
     (λ next. IsTrue g.S.Space.tells → g.S.Space.size c.args.s.now < 2 ^ 32 → AppendsRightly f a b key more c.args.whole.now c.args.limit c.args.stood_on.now Stage.Chained next)
     (λ next rightly same told small. look_rightly f a b key more c.args.limit c.args.stood_on.now c.args.whole.now whole next (rightly told) (same told)) c.look_to_append.ensures.rightly c.look_to_append.ensures.joined)

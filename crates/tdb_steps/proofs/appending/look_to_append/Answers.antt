@@ -38,7 +38,13 @@ pub returns-clause-rightly : goal.returns-clause-rightly
 returns-clause-rightly g c told others A =
     let f = g.S.Space.form c.args.s.now in
     let a = g.S.Space.image c.args.s.now in
-    (Some c.in-Some.place, subst (IsFound f a c.args.key.now) c.in-Some.is (c.in_ok-place.ensures.found told others A), subst (λ n. UpdatesRightly n (Some c.in-Some.place) c.in_ok-next.next) (ap length c.as_slice.ensures) c.in_ok-next.ensures.rightly)
+    let b = g.S.Space.image c.update_found.new.s in
+    let image = c.joined_value.ensures.looked.image ∙ c.find.ensures.looked.image in (
+      Some c.in-Some.place,
+      subst (IsFound f a c.args.key.now) c.in-Some.is (c.in_ok-place.ensures.found told others A),
+      subst (λ i. UpdatesRightly i b (length c.in-Some-2.bytes) (Some c.in-Some.place) c.in_ok-next.next) image
+          (subst (λ n. UpdatesRightly (g.S.Space.image c.joined_value.new.s) b n (Some c.in-Some.place) c.in_ok-next.next) (ap length c.as_slice.ensures) c.in_ok-next.ensures.rightly),
+    )
 
 pub returns-clause-joined : goal.returns-clause-joined
 returns-clause-joined g c told hands A =

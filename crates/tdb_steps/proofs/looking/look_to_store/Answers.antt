@@ -38,6 +38,9 @@ returns-clause-rightly g c =
     let key = c.args.key.now in
     let n = length c.args.value.now in
     let place = c.in-Some.place in
-    IfOk-weaker c.update_found.result (UpdatesRightly n (Some place)) (λ next. IsTrue g.S.Space.tells → Finds f a key (λ found. UpdatesRightly n found next))
-    (λ next rightly told others A. (Some place, subst (IsFound f a key) c.in-Some.is (c.in_ok-place.ensures.found told others A), rightly))
+    let v = g.S.Space.image c.find.new.s in
+    let b = g.S.Space.image c.update_found.new.s in
+    IfOk-weaker c.update_found.result (UpdatesRightly v b n (Some place)) (λ next. IsTrue g.S.Space.tells → Finds f a key (λ found. UpdatesRightly a b n found next))
+    (λ next rightly told others A.
+    (Some place, subst (IsFound f a key) c.in-Some.is (c.in_ok-place.ensures.found told others A), subst (λ i. UpdatesRightly i b n (Some place) next) c.find.ensures.looked.image rightly))
     c.update_found.ensures.rightly

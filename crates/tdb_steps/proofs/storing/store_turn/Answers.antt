@@ -26,8 +26,8 @@ returns-in-Chained-clause-rightly g c =
     let a = g.S.Space.image c.args.s.now in
     let b = g.S.Space.image c.look_to_store.new.s in
     subst (λ then. IfOk c.look_to_store.result (λ next. IsTrue g.S.Space.tells → g.S.Space.size c.args.s.now < 2 ^ 32 → StoresRightly f a b c.args.key.now (length c.args.value.now) (rec_len_for (length c.args.key.now) (length c.args.value.now)) c.args.limit c.args.stood_on.now then next)) (sym c.in-Chained.is)
-    (IfOk-weaker c.look_to_store.result (λ next. IsTrue g.S.Space.tells → Finds f a c.args.key.now (λ place. UpdatesRightly (length c.args.value.now) place next))
-    (λ next. IsTrue g.S.Space.tells → g.S.Space.size c.args.s.now < 2 ^ 32 → Finds f a c.args.key.now (λ place. UpdatesRightly (length c.args.value.now) place next))
+    (IfOk-weaker c.look_to_store.result (λ next. IsTrue g.S.Space.tells → Finds f a c.args.key.now (λ place. UpdatesRightly a b (length c.args.value.now) place next))
+    (λ next. IsTrue g.S.Space.tells → g.S.Space.size c.args.s.now < 2 ^ 32 → Finds f a c.args.key.now (λ place. UpdatesRightly a b (length c.args.value.now) place next))
     (λ next rightly told small. rightly told) c.look_to_store.ensures.rightly)
 
 pub returns-in-Chained-clause-leads : goal.returns-in-Chained-clause-leads

@@ -8,7 +8,8 @@ use Rattle.tdb_locks.specs.LockTable.{held}
 use Rattle.tdb_openers.proofs.Checks.CheckReady.{number_alone}
 use Rattle.tdb_openers.specs.Turning.{TurnsFile, ImageBefore, OpenerHolds, resting}
 use Rattle.tdb_openers.specs.Calm.{IsMidway}
-use Rattle.tdb_openers.specs.Jobs.{JobIsReady, JobTurned, JobFiled}
+use Rattle.tdb_openers.specs.Jobs.{IsPlain, JobIsReady, JobTurned, JobFiled}
+use Rattle.tdb_steps.specs.Room.{FullAtTake}
 use Rattle.tdb_space.specs.Form.{form_in}
 use Rattle.tdb_law.specs.World.{HasFewChains}
 use Rattle.tdb_openers.specs.Cursors.{is_stood}
@@ -72,6 +73,35 @@ returns-in-Plain-clause-file g c =
     let small : size < 4294967296 = omega (arith, within, limit) in
     subst (λ j. JobFiled f x x (resting rest) v j (Jobs.Plain c.turn.new.self) n who c.args.locks.now a b others c.args.spots.now (law_turn turn)) (sym c.in-Plain.is)
     (filed told small c.args.options.now c.args.live rest v n who others ready before)) c.turn.ensures.filed
+
+pub returns-in-Plain-clause-full : goal.returns-in-Plain-clause-full
+returns-in-Plain-clause-full g c =
+    let f = g.S.Space.form c.args.s.now in
+    let a = g.S.Space.image c.args.s.now in
+    let size = g.S.Space.size c.args.s.now in
+    let within = c.requires.within in
+    let limit = c.requires.limit in
+    IfOk-weaker c.turn.result _ _
+    (λ turn full told rest n who others J I plain.
+    let x = own_with c.args.options.now c.args.live c.args.held.now rest in
+    let ready = subst (λ j. JobIsReady f x (resting rest) j n who c.args.owner size c.args.locks.now) c.in-Plain.is J in
+    let before = subst (λ j. ImageBefore f j a others) c.in-Plain.is I in
+    let small : size < 4294967296 = omega (arith, within, limit) in
+    subst (λ j. FullAtTake f a c.args.options.now.limit (record { command = command_in j; steps = n }) (law_turn turn)) (sym c.in-Plain.is)
+    (full told small c.args.options.now c.args.live rest n who others ready before)) c.turn.ensures.full
+
+-- nothing else stores
+pub returns-in-Refused-clause-full : goal.returns-in-Refused-clause-full
+returns-in-Refused-clause-full g c told rest n who others J I plain = absurd (subst IsPlain c.in-Refused.is plain)
+
+pub returns-in-Locking-clause-full : goal.returns-in-Locking-clause-full
+returns-in-Locking-clause-full g c told rest n who others J I plain = absurd (subst IsPlain c.in-Locking.is plain)
+
+pub returns-in-Check-clause-full : goal.returns-in-Check-clause-full
+returns-in-Check-clause-full g c = IfOk-weaker c.check_turn.result _ _ (λ turn row told rest n who others J I plain. absurd (subst IsPlain c.in-Check.is plain)) c.check_turn.ensures.row
+
+pub returns-in-Seqnum-clause-full : goal.returns-in-Seqnum-clause-full
+returns-in-Seqnum-clause-full g c = IfOk-weaker c.seqnum_turn.result _ _ (λ turn locks told rest n who others J I plain. absurd (subst IsPlain c.in-Seqnum.is plain)) c.seqnum_turn.ensures.locks
 
 pub returns-in-Locking-clause-turned : goal.returns-in-Locking-clause-turned
 returns-in-Locking-clause-turned g c rest n who J =

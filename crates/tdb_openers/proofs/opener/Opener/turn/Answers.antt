@@ -7,6 +7,9 @@ use Rattle.tdb_openers.specs.Openers.{rest_of, own_of, command_in, walk_of, step
 use Rattle.tdb_openers.specs.Worlds.{law_of_task}
 use Rattle.tdb_commands.specs.InLaw.{law_turn}
 use Rattle.tdb_steps.proofs.Made.{of_both}
+use Rattle.tdb_steps.specs.Room.{FullAtTake}
+use Rattle.tdb_openers.specs.Jobs.{IsPlain}
+use Rattle.std.proofs.lemmas.Result.{IfOk-weaker}
 use Rattle.tdb_openers.proofs.PlainTurns.TaskReady.{task_few, task_ready, after_beside}
 use Rattle.tdb_openers.proofs.Walks.Rests.{walk_still, walk_rests}
 use Rattle.tdb_openers.proofs.opener.Opener.turn.Goals as goal
@@ -50,6 +53,19 @@ returns-clause-file g c =
     c.args.locks.now a b (law_turn turn) × TurnsImage f u c.after.result a b others
     × (CursorsBeside f a (is_stood c.args.spots.now) u → LeavesCursors f (own_of c.args.options.now c.args.self.now) u c.after.result (law_turn turn) a b (is_stood c.args.spots.now))) same
     (F.file, subst (λ z. TurnsImage f now z a b others) (sym left) F.image, λ C. subst (λ z. LeavesCursors f (own_of c.args.options.now c.args.self.now) now z (law_turn turn) a b (is_stood c.args.spots.now)) (sym left) (F.cursors C))) c.turn-turn.ensures.file c.after.ensures.left
+
+pub returns-clause-full : goal.returns-clause-full
+returns-clause-full g c =
+    let f = g.S.Space.form c.args.s.now in
+    let a = g.S.Space.image c.args.s.now in
+    let now = c.in-Some.now in
+    let busy : c.args.self.now.task ≡ Some now = sym c.take.ensures.value ∙ c.in-Some.is in
+    IfOk-weaker c.turn-turn.result _ _
+    (λ turn full told t who others e number I plain.
+    let same : now ≡ t = ap (λ o. unwrap_or o now) (sym busy ∙ e) in
+    let ready = task_ready f c.args.options.now c.args.self.now (g.S.Space.size c.args.s.now) c.args.owner c.args.locks.now c.requires.stands c.requires.holds now busy who number in
+    subst (λ u. FullAtTake f a c.args.options.now.limit (law_of_task u) (law_turn turn)) same
+    (full told (rest_of c.args.self.now.walk) now.steps who others ready (subst (λ u. ImageBefore f u.job a others) (sym same) I) (subst (λ u. IsPlain u.job) (sym same) plain))) c.turn-turn.ensures.full
 
 pub returns-clause-locks : goal.returns-clause-locks
 returns-clause-locks g c =

@@ -15,7 +15,10 @@ use Rattle.tdb_walk.specs.Spots.{spot_number}
 use Rattle.tdb_openers.proofs.Joining.Putting.{numbered, others_put, spots_still}
 use Rattle.tdb_openers.proofs.PlainTurns.Stepping.{Locked, Filed, ok_so, ok_both, stands_before, holds_before, task_busy, busy_after, image_before, world_after, file_after, turned_after}
 use Rattle.std.specs.Option.{option_map}
-use Rattle.tdb_openers.specs.Openers.{walk_command}
+use Rattle.tdb_openers.specs.Openers.{walk_command, walk_of}
+use Rattle.tdb_openers.specs.declared.opener.Opener.{Opener}
+use Rattle.tdb_steps.specs.Room.{FullAtTake}
+use Rattle.tdb_openers.proofs.PlainTurns.Fullness.{world_full, plain_beside}
 use Rattle.tdb_openers.proofs.Walks.WalkStepping.{calm_before, spared_before}
 use Rattle.tdb_openers.proofs.Walks.WalkStepping.{Walks, ok_of, spots_put, walk_busy, words_before, asked_before, walk_busy_after, walk_world_after, walk_file_after, walk_turned_after}
 use Rattle.tdb_openers.proofs.openers.Openers.turn.Goals as goal
@@ -99,6 +102,31 @@ returns-clause-turned g c =
     (subst (λ w. BytesStand w a) (sym e) bytes)
     (subst (λ l. Filed (form_in c.self.inside.header) c.self.inside.options d y c.args.who c.self.inside.locks l a b turn) c.self.invariant (subst (λ f. Filed f c.self.inside.options d y c.args.who c.self.inside.locks c.self.inside.spots a b turn) form (T told)))))
     c.turn.ensures.locks c.turn.ensures.file
+
+pub returns-clause-full : goal.returns-clause-full
+returns-clause-full g c =
+    let e = c.self.view_is in
+    let form = c.requires.form ∙ ap (λ w. form_in w.header) (sym e) in
+    let header = c.self.inside.header in
+    let options = c.self.inside.options in
+    let xs = c.self.inside.list.items in
+    let ps = c.self.inside.locks in
+    let a = g.S.Space.image c.args.s.now in
+    let size = g.S.Space.size c.args.s.now in
+    let W = subst (λ w. Stands w a size) (sym e) c.requires.stands in
+    let off = sym c.walking.ensures ∙ ap (option_map walk_command) c.in_default-walking.is in
+    let item = c.in-Some.ensures.item.1 in
+    let d = c.in-Some.opener.now in
+    of_both c.turn.result _ _ _
+    (λ turn turned full told bytes x t B.
+    let K = subst (λ w. IsBusy w c.args.who x t) (sym e) B in
+    let before = image_before header options xs ps a size c.args.who x d t K item W off (subst (λ w. BytesStand w a) (sym e) bytes) in
+    world_full c.args.self.now a size c.args.who x t B c.requires.stands turn _ (turned told bytes x t B)
+    (λ plain. subst (λ w. FullAtTake (form_in w.header) a w.options.limit (law_of_task t) (law_turn turn)) e
+    (subst (λ f. FullAtTake f a options.limit (law_of_task t) (law_turn turn)) form
+    (full told t K.number.place (other_hands xs K.number.place) (task_busy header options xs ps a size c.args.who x d t K item W off) K.number.counted
+    (subst (λ f. ImageBefore f t.job a (other_hands xs K.number.place)) (sym form) before) plain))))
+    (returns-clause-turned g c) c.turn.ensures.full
 
 pub returns-clause-busy : goal.returns-clause-busy
 returns-clause-busy g c =
@@ -228,6 +256,19 @@ returns-in-Some-walking-clause-turned g c =
     (subst (λ f. Walks g.S.Space.tells f c.self.inside.options.read_only d y c.args.who c.self.inside.locks c.walk_turn.new.locks c.self.inside.spots w a b size turn) form T))
     told (subst (λ w. BytesStand w a) (sym e) bytes)))
     c.walk_turn.ensures.turned
+
+pub returns-in-Some-walking-clause-full : goal.returns-in-Some-walking-clause-full
+returns-in-Some-walking-clause-full g c =
+    let e = c.self.view_is in
+    let xs = c.self.inside.list.items in
+    let a = g.S.Space.image c.args.s.now in
+    let d = c.in-Some.opener.now in
+    IfOk-weaker c.walk_turn.result _ _
+    (λ turn turned told bytes x t B.
+    let N = (subst (λ w. IsBusy w c.args.who x t) (sym e) B).number in
+    let walks = sym (ap (λ (z : Opener). walk_of z.task) (numbered xs c.args.who N.place x d N.counted N.there c.in-Some.ensures.item.1) ∙ ap walk_of B.busy) ∙ (sym c.walking.ensures ∙ ap (option_map walk_command) c.in-Some-walking.is) in
+    world_full c.args.self.now a (g.S.Space.size c.args.s.now) c.args.who x t B c.requires.stands turn _ (turned told bytes x t B) (λ plain. absurd (plain_beside t.job _ walks plain)))
+    (returns-in-Some-walking-clause-turned g c)
 
 pub returns-in-Some-walking-clause-busy : goal.returns-in-Some-walking-clause-busy
 returns-in-Some-walking-clause-busy g c =

@@ -3,6 +3,7 @@ use Rattle.std.proofs.Common.{sym, ◌∙◌, ap, subst}
 use Rattle.std.proofs.lemmas.Result.{IfOk-weaker}
 use Rattle.tdb_law.specs.Commands.Command.{OnMap}
 use Rattle.tdb_steps.specs.PlainCommands.{command_of}
+use Rattle.tdb_steps.specs.Room.{FullAtTake}
 use Rattle.tdb_commands.specs.InLaw.{law_turn}
 use Rattle.tdb_openers.specs.declared.job.Job.TheVariants.{Plain}
 use Rattle.tdb_openers.specs.Openers.{own_with, command_in}
@@ -48,6 +49,19 @@ returns-clause-filed g c =
     subst (λ d. JobFiled f (own_with options live held rest) (own_with options live held rest) (resting rest) v (Plain d) (Plain new) n who c.args.locks.now a b others c.args.stood_on.now (law_turn turn)) e
     (record { file = file told small options live rest v n who others ready before; image = image told small options live rest n who others ready before; cursors = cursors told small options live rest n who others ready before }))
     c.plain_turn.ensures.file c.plain_turn.ensures.image c.plain_turn.ensures.cursors
+
+pub returns-clause-full : goal.returns-clause-full
+returns-clause-full g c =
+    let f = g.S.Space.form c.args.s.now in
+    let held = c.args.held.now in
+    let a = g.S.Space.image c.args.s.now in
+    let size = g.S.Space.size c.args.s.now in
+    let e = c.self.view_is in
+    IfOk-weaker c.plain_turn.result _ _
+    (λ turn full told small options live rest n who others J I.
+    let ready = subst (λ d. JobIsReady f (own_with options live held rest) (resting rest) (Plain d) n who c.args.owner size c.args.locks.now) (sym e) J in
+    let before = subst (λ d. ImageBefore f (Plain d) a others) (sym e) I in
+    subst (λ d. FullAtTake f a c.args.limit (record { command = command_in (Plain d); steps = n }) (law_turn turn)) e (full told small options live rest n who others ready before)) c.plain_turn.ensures.full
 
 pub returns-clause-calm : goal.returns-clause-calm
 returns-clause-calm g c options live rest n who J =

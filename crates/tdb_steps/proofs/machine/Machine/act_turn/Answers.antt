@@ -16,7 +16,7 @@ use Rattle.tdb_steps.proofs.machine.Machine.act_turn.Goals as goal
 pub returns-in-Step-clause-made : goal.returns-in-Step-clause-made
 returns-in-Step-clause-made g c told small n others =
     act_stepped (g.S.Space.form c.args.s.now) (g.S.Space.image c.args.s.now) (g.S.Space.image c.act.new.s) c.self.inside.command c.self.inside.chain c.self.inside.seqnum n c.self.inside.stage c.replace-stage.result c.self.inside.whole c.take-whole.result c.act.new.whole c.in_ok-next.field-0 c.args.self.now _ others
-    (sym c.self.view_is) c.replace-stage.ensures.value c.take-whole.ensures.value c.in_ok-next.ensures.order (c.in_ok-next.ensures.made told small) c.in-Step.next c.in-Step.is
+    (sym c.self.view_is) c.replace-stage.ensures.value c.take-whole.ensures.value c.in_ok-next.ensures.order (c.in_ok-next.ensures.made told small) c.args.limit c.args.stood_on.now (c.in_ok-next.ensures.rightly told small) c.in-Step.next c.in-Step.is
     (ap (λ x. record { command = c.self.inside.command; chain = c.self.inside.chain; seqnum = c.self.inside.seqnum; stage = x; whole = c.act.new.whole }) c.replace.ensures.after)
 
 pub returns-in_ok-count-in-Done-clause-made : goal.returns-in_ok-count-in-Done-clause-made
