@@ -1,1 +1,2 @@
 pub mod LogLists
+pub mod Telling

@@ -1,9 +1,10 @@
 -- A list of logs, of which the last is told notices.
-use Rattle.std.specs.Prelude.{ℕ, ◌≡◌, ◌≢◌, List, [], ◌∷◌, ◌++◌, Bool, IsTrue, Option, None, Some}
+use Rattle.std.specs.Prelude.{ℕ, ◌≡◌, ◌≢◌, List, [], ◌∷◌, ◌++◌, Bool, IsTrue, Option, None, Some, if◌then◌else◌, nat_lt}
 use Rattle.tdb_disk.specs.Count.{Rose}
 use Rattle.tdb_log.specs.declared.log.LogRefusal.{LogRefusal}
 use Rattle.tdb_log.specs.declared.log.LogRefusal.TheVariants.{Failed, Memory}
 use Rattle.tdb_log.specs.declared.notice.Notice.{Notice}
+use Rattle.tdb_log.specs.declared.notice.Notice.TheVariants.{Grew}
 
 -- A log, as a contract sees it: whether it tells, the notices so far, which say something only where it does, and its
 -- count of faults.
@@ -61,3 +62,7 @@ pub record ToldUpTo (refusal : LogRefusal) (notices : List Notice) (old new : Li
   pub mid : List Logged
   pub told : ToldAll front old mid
   pub refused : LastRefused refusal mid new
+
+-- that a file grew from one length to another, if it did
+abbrev pub growth : ℕ → ℕ → List Notice
+growth from to = if nat_lt from to then Grew from to ∷ [] else []

@@ -10,7 +10,7 @@ mod sink_log;
 
 pub use crate::count_log::CountLog;
 pub use crate::log::{Log, LogRefusal};
-pub use crate::logs::Logs;
+pub use crate::logs::{Logs, tell_growth};
 pub use crate::mem_log::MemLog;
 pub use crate::notice::Notice;
 pub use crate::sink_log::SinkLog;

@@ -1,7 +1,7 @@
 // The logs of a run, of which the last is told what becomes of the file.
 
 ghost use Rattle.std.specs.Prelude.{◌≡◌, List, map, length, OnOk, IfErr};
-ghost use Rattle.tdb_log.specs.Logs.{Logged, Took, LastBecame, LastRefused, but_last};
+ghost use Rattle.tdb_log.specs.Logs.{Logged, Took, ToldAll, ToldUpTo, LastBecame, LastRefused, but_last, growth};
 
 use crate::log::{Log, LogRefusal};
 use crate::notice::Notice;
@@ -37,4 +37,16 @@ impl Logs for Vec<Box<dyn Log>> {
         self.pop();
         self.len()
     }
+}
+
+/// Tells the last log that a file grew from one length to another, if it did. Lengths are in bytes. A log that refuses
+/// it was told nothing.
+pub fn tell_growth<L: Logs>(from: u64, to: u64, logs: &mut L) -> Result<(), LogRefusal>
+    ensures told { OnOk result (ToldAll (growth from to) (L.logs logs.old) (L.logs logs.new)) }
+    ensures refused { IfErr result (λ refusal. ToldUpTo refusal (growth from to) (L.logs logs.old) (L.logs logs.new)) }
+{
+    if from < to {
+        return logs.note(&Notice::Grew { from, to });
+    }
+    Ok(())
 }
