@@ -3,8 +3,7 @@ use Rattle.std.proofs.Common.{◌≡◌, ℕ, zero, suc, List, [], ◌++◌, tak
 use Rattle.std.specs.Prelude.{Bool, IsTrue, OnOk, OnErr}
 use Rattle.std.proofs.lemmas.List.{append_assoc, append-nil, map-append}
 use Rattle.tdb_disk.specs.History.{History, seen}
-use Rattle.tdb_disk.specs.Stop.{LeavesOnly}
-use Rattle.tdb_disk.proofs.Runs.{leaves_join, leaves_start, leaves_weaker}
+use Rattle.tdb_disk.proofs.Runs.{leaves_start}
 use Rattle.tdb_space.specs.Form.{Form}
 use Rattle.tdb_space.specs.Opening.{restored}
 use Rattle.tdb_space.specs.Undoing.{Reopens}
@@ -29,10 +28,11 @@ use Rattle.tdb_world.proofs.Reopening.{state_reopens}
 use Rattle.tdb_world.specs.Courses.Hearing.{RunsAsTold}
 use Rattle.tdb_world.specs.OverFile.{OverFile, HasState, moment_of}
 use Rattle.tdb_world.specs.Courses.Led.{Comes, Led}
-use Rattle.tdb_world.specs.Courses.Stops.{IsTransacted, Leads, OpensOnTheWay, Passes, StopsLed}
+use Rattle.tdb_world.specs.Courses.Stops.{IsTransacted, Leads, OpensAndStays, OpensOnTheWay, StopsLed}
 use Rattle.tdb_world.specs.Courses.Unfinished.{AreUnfinished}
 use Rattle.tdb_openers.proofs.Joining.Courses.{course_join}
 use Rattle.tdb_world.proofs.Courses.Coming.{whole_comes, comes_more, comes_after}
+use Rattle.tdb_world.proofs.Courses.Stopping.{both_open, leads_join, nothing_stays, passes_behind, passes_front, passes_here}
 use Rattle.tdb_tool.proofs.Telling.{front_after}
 use Rattle.tdb_log.specs.Logs.{Logged}
 use Rattle.tdb_log.specs.declared.log.LogRefusal.{LogRefusal}
@@ -44,45 +44,19 @@ use Rattle.tdb_answer.specs.Playing.{PlaysEnd, UnlessBroken, OnBroken, end_of}
 use Rattle.tdb_answer.specs.Stops.{LeavesOnTheWay, StopsTold, StopsOver, OnlyUnfinished, WroteOf, WroteWhole}
 use Rattle.tdb_answer.proofs.Coming.{front_either, text_more, unless_end, unless_map, unless_sound}
 
--- what leads on, and then further
-leads_join : (f : Form) (old mid new : State) (front rest : List LawLine) → Leads f old front mid → Leads f mid rest new → Leads f old (front ++ rest) new
-leads_join f old mid new front rest L M = (L.0 ++ M.0, course_join f L.0 M.0 old mid new front rest L.1 M.1)
-
--- a report passes the state that it begins with
-pub passes_start : (f : Form) (old : State) (lines : List LawLine) → Passes f old lines old
-passes_start f old lines = record { front = []; rest = lines; parts = refl; leads = ([], (refl, refl)) }
-
--- a report that goes on in another one passes what both pass, so it is calm where both are
+-- a report that goes on in another one is calm where both are
 module _ (f : Form) (old mid : State) (front rest : List LawLine) where
-  front_passes : (s : State) → Passes f old front s → Passes f old (front ++ rest) s
-  front_passes s P = record { front = P.front; rest = P.rest ++ rest; parts = ap (λ ls. ls ++ rest) P.parts ∙ append_assoc P.front P.rest rest; leads = P.leads }
-
   calm_front : IsTransacted f old (front ++ rest) → IsTransacted f old front
-  calm_front calm s o P = calm s o (front_passes s P)
+  calm_front calm s o P = calm s o (passes_front f old s front rest P)
 
-  front_opens : (c : List ℕ) → OpensOnTheWay f old front c → OpensOnTheWay f old (front ++ rest) c
-  front_opens c w = (w.0, w.1, front_passes w.0 w.2, w.3)
-
-  module _ (L : Leads f old front mid) where
-    rest_passes : (s : State) → Passes f mid rest s → Passes f old (front ++ rest) s
-    rest_passes s P = record {
-      front = front ++ P.front;
-      rest = P.rest;
-      parts = ap (λ ls. front ++ ls) P.parts ∙ sym (append_assoc front P.front P.rest);
-      leads = leads_join f old mid s front P.front L P.leads;
-    }
-
-    calm_rest : IsTransacted f old (front ++ rest) → IsTransacted f mid rest
-    calm_rest calm s o P = calm s o (rest_passes s P)
-
-    rest_opens : (c : List ℕ) → OpensOnTheWay f mid rest c → OpensOnTheWay f old (front ++ rest) c
-    rest_opens c w = (w.0, w.1, rest_passes w.0 w.2, w.3)
+  calm_rest : Leads f old front mid → IsTransacted f old (front ++ rest) → IsTransacted f mid rest
+  calm_rest L calm s o P = calm s o (passes_behind f old mid s front rest L P)
 
 -- where nothing is done yet a stop leaves a file that opens to the world's state
 here_opens : (w : Whole) (h : History) (state : State) (lines : List LawLine) (c : List ℕ) → IsStateOf w h state → Reopens (restored (form_at w) (seen h)) c → OpensOnTheWay (form_at w) state lines c
 here_opens w h state lines c is reopens =
     let read = state_reopens w h state is in
-    (state, 0, passes_start (form_at w) state lines, inl (record { image = restored (form_at w) (seen h); reopens = reopens; file = read.file; number = read.number }))
+    (state, 0, passes_here (form_at w) state lines, inl (record { image = restored (form_at w) (seen h); reopens = reopens; file = read.file; number = read.number }))
 
 module _ (disk_tells told : Bool) where
   -- no play was taken
@@ -95,6 +69,7 @@ module _ (disk_tells told : Bool) where
     left = λ heard state at. (state, at, whole_comes (form_at start.over.world) [] state state [] (refl, refl));
     stops = λ heard state is safe calm. record {
       stops = leaves_start start.over.history _ (λ c left. here_opens start.over.world start.over.history state [] c is (safe c left));
+      stays = nothing_stays (form_at start.over.world) start.over.history start.over.history state;
       left = (state, is, ([], (refl, refl)), safe);
     };
   }
@@ -135,11 +110,11 @@ module _ (disk_tells told : Bool) where
     -- what stops leave after a state, in a form
     abbrev Goes-on : Form → State → Type 0
     Goes-on f s =
-        LeavesOnly mid.over.history new.over.history (OpensOnTheWay f s (law_lines next.lines))
+        OpensAndStays f mid.over.history new.over.history s (law_lines next.lines)
         × UnlessBroken answer ((after : State) × IsStateAt new after × Leads f s (law_lines next.lines) after × IsSafe f new.over.history)
 
     goes_on : IsTrue disk_tells → (s : State) → IsStateAt mid s → IsSafe f mid.over.history → IsTransacted f s (law_lines next.lines) → Goes-on f s
-    goes_on heard s is = subst (λ g. IsSafe g mid.over.history → IsTransacted g s (law_lines next.lines) → Goes-on g s) same (λ safe calm. (let n = next.stops heard s is safe calm in (n.stops, n.left)))
+    goes_on heard s is = subst (λ g. IsSafe g mid.over.history → IsTransacted g s (law_lines next.lines) → Goes-on g s) same (λ safe calm. (let n = next.stops heard s is safe calm in (record { opens = n.stops; stays = n.stays }, n.left)))
 
     stops_both : IsTrue disk_tells → (state : State) → IsStateAt start state → IsSafe f start.over.history → IsTransacted f state (law_lines both) → LeavesOnTheWay start new answer state both
     stops_both heard state is safe calm =
@@ -150,11 +125,11 @@ module _ (disk_tells told : Bool) where
         let s = a.left.0 in
         let L : Leads f state ls s = a.left.2 in
         let b = goes_on heard s a.left.1 a.left.3 (calm_rest f state s ls ms L c) in
+        let W = subst (OpensAndStays f start.over.history new.over.history state) (sym split)
+        (both_open f start.over.history mid.over.history new.over.history state s ls ms L (record { opens = a.stops; stays = a.stays }) b.0) in
         record {
-          stops = subst (λ x. LeavesOnly start.over.history new.over.history (OpensOnTheWay f state x)) (sym split)
-              (leaves_join start.over.history mid.over.history new.over.history (OpensOnTheWay f state (ls ++ ms))
-              (leaves_weaker start.over.history mid.over.history (OpensOnTheWay f state ls) (OpensOnTheWay f state (ls ++ ms)) (front_opens f state s ls ms) a.stops)
-              (leaves_weaker mid.over.history new.over.history (OpensOnTheWay f s ms) (OpensOnTheWay f state (ls ++ ms)) (rest_opens f state s ls ms L) b.0));
+          stops = W.opens;
+          stays = W.stays;
           left = unless_map answer (λ q. (q.0, q.1, subst (λ x. Leads f state x q.0) (sym split) (leads_join f state s q.0 ls ms L q.2), q.3)) b.1;
         }
 
@@ -225,7 +200,7 @@ module _ (disk_tells told : Bool) (a b : OverFile) (first lines : List Line) (em
     front = front_either (IsTrue told) before (report_text lines) now untold all front;
     all = λ is heard s at. subst (λ p. Told p s lines) (all_done played untold is).0 (from heard s at);
     left = λ heard s at. unless_end _ played untold (came played s (from heard s at));
-    stops = λ heard state is safe calm. (let s = led heard state lines is (ap (λ ls. ls ++ lines) (sym empty)) safe calm in record { stops = s.stops; left = unless_end _ played untold s.left });
+    stops = λ heard state is safe calm. (let s = led heard state lines is (ap (λ ls. ls ++ lines) (sym empty)) safe calm in record { stops = s.stops; stays = s.stays; left = unless_end _ played untold s.left });
   }
     where
       from : IsTrue disk_tells → (s : State) → HasState a s → Told played s lines
@@ -249,7 +224,7 @@ module _ (disk_tells told : Bool) (old new : Scene) (plays : List Play) (answer 
     left = λ so heard state at.
         (let none = unbroken so heard state at in
         let c = unless_sound answer none (t.left heard state at) in (c.0, c.2, inl (unless_sound answer none (read c.0 c.1))));
-    stops = λ heard state is safe calm. (t.stops heard state is safe calm).stops;
+    stops = λ heard state is safe calm. (let s = t.stops heard state is safe calm in record { opens = s.stops; stays = s.stays });
   }
 
   pub stops_broken : (done → ⊥) → StopsOver old.over.world disk_tells told plays done sound old.over.history new.over.history old.written new.written

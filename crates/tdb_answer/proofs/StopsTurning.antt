@@ -4,7 +4,7 @@ use Rattle.std.specs.Prelude.{Bool, IsTrue}
 use Rattle.std.proofs.lemmas.List.{append-nil, take_all}
 use Rattle.tdb_disk.specs.History.{History, seen}
 use Rattle.tdb_disk.specs.Stop.{Quiet}
-use Rattle.tdb_disk.proofs.Runs.{leaves_join, leaves_weaker}
+use Rattle.tdb_disk.proofs.Runs.{leaves_weaker}
 use Rattle.tdb_space.specs.Accepted.{Accept, AcceptWith, Shut}
 use Rattle.tdb_space.specs.Form.{Form, form_of}
 use Rattle.tdb_space.specs.Undoing.{Reopens}
@@ -25,6 +25,7 @@ use Rattle.tdb_world.specs.Loaded.{IsOver, IsJustLoaded}
 use Rattle.tdb_world.specs.Whole.{Whole, form_at, options_at}
 use Rattle.tdb_openers.proofs.Joining.Courses.{course_whole}
 use Rattle.tdb_world.specs.Courses.Stops.{OpensOnTheWay}
+use Rattle.tdb_world.proofs.Courses.Stopping.{nothing_stays, opens_before, passes_here}
 use Rattle.tdb_answer.specs.declared.ending.Ending.{Ending}
 use Rattle.tdb_answer.specs.declared.ending.Ending.TheVariants.{DeviceFault, LogFault, NoMemory, Replied}
 use Rattle.tdb_answer.specs.declared.ending.Reply.TheVariants.{Played}
@@ -43,7 +44,6 @@ use Rattle.tdb_tool.proofs.Stops.{accepted_safe}
 use Rattle.tdb_answer.proofs.Held.{same_held}
 use Rattle.tdb_open.proofs.Openings.{still_safe}
 use Rattle.tdb_answer.proofs.Runs.{opened_same}
-use Rattle.tdb_answer.proofs.Stopping.{passes_start}
 use Rattle.tdb_open.proofs.ToTurn.{opened_short}
 
 -- an accepted image is read as it is
@@ -74,7 +74,7 @@ all_ended (Err unprinted) is = let wrong : Err unprinted ≡ Ok (Replied Played)
 
 -- what opens to an image opens to the state of a world just loaded over it
 pub start_opens : (f : Form) (r : List ℕ) (start : State) (lines : List LawLine) → IsOver f r start → (c : List ℕ) → Reopens r c → OpensOnTheWay f start lines c
-start_opens f r start lines over c reopens = (start, 0, passes_start f start lines, inl (record { image = r; reopens = reopens; file = over.file; number = over.number }))
+start_opens f r start lines over c reopens = (start, 0, passes_here f start lines, inl (record { image = r; reopens = reopens; file = over.file; number = over.number }))
 
 -- the state of a world just loaded over an image
 abbrev pub fresh : Form → Options → List ℕ → State
@@ -139,7 +139,10 @@ unopened_stops options plays old now told done sound written can safe kept =
       printed = λ out. ([], tt, 0, sym (append-nil written));
       whole = λ is out. ([], tt, sym (append-nil written));
       left = λ so. (fresh f options r, course_whole f [] (law_plays plays) (fresh f options r) (fresh f options r) [] (refl, refl), kept_left f old now (fresh f options r) can.opens.accepted over (kept so));
-      stops = λ quiet again calm. leaves_weaker old now (Reopens r) (OpensOnTheWay f (fresh f options r) []) (start_opens f r (fresh f options r) [] over) (safe quiet can.opens again);
+      stops = λ quiet again calm. record {
+        opens = leaves_weaker old now (Reopens r) (OpensOnTheWay f (fresh f options r) []) (start_opens f r (fresh f options r) [] over) (safe quiet can.opens again);
+        stays = nothing_stays f old now (fresh f options r);
+      };
     }
 
 -- an opening for turns leaves all of the file on the medium, where it was
@@ -166,9 +169,9 @@ opened_stops options plays old mid now told done sound ended calm before after t
       whole = λ is. p.whole (to is);
       left = λ so. p.left (still so);
       stops = λ quiet again calm.
-          (let way = OpensOnTheWay f p.start (law_lines p.lines) in
-          leaves_join old mid now way (leaves_weaker old mid (Reopens r) way (start_opens f r p.start (law_lines p.lines) over) (safe quiet can.opens again))
-          (p.stops (opened_quiet options old mid opened.left quiet) (inl A.shut) calm));
+          opens_before f old mid now p.start (law_lines p.lines)
+          (leaves_weaker old mid (Reopens r) (OpensOnTheWay f p.start (law_lines p.lines)) (start_opens f r p.start (law_lines p.lines) over) (safe quiet can.opens again))
+          (p.stops (opened_quiet options old mid opened.left quiet) (inl A.shut) calm);
     }
 
 -- the file at a name

@@ -21,7 +21,7 @@ use Rattle.tdb_openers.specs.Played.{ComesTo}
 use Rattle.tdb_world.specs.Stops.{IsSafe}
 use Rattle.tdb_world.specs.States.{IsStateOf}
 use Rattle.tdb_world.specs.Whole.{Whole, form_at}
-use Rattle.tdb_world.specs.Courses.Stops.{IsTransacted, Leads, OpensOnTheWay}
+use Rattle.tdb_world.specs.Courses.Stops.{IsTransacted, Leads, OpensAndStays, OpensOnTheWay, StaysTold}
 use Rattle.tdb_answer.specs.declared.ending.Ending.{Ending}
 use Rattle.tdb_answer.specs.Commands.Turns.{HasScript}
 use Rattle.tdb_answer.specs.Ending.{text_of}
@@ -32,16 +32,18 @@ use Rattle.tdb_answer.specs.Playing.{PlaysEnd, UnlessBroken}
 use Rattle.tdb_answer.specs.Run.{Run}
 use Rattle.tdb_answer.specs.Safe.{StopsSince, IsLeftAs}
 
--- Every stop between two moments leaves a file that opens on the way that these lines tell from a state; and unless the
--- disk failed they lead to a state of the other moment, in which a stop leaves only what opens to the file's map.
+-- Every stop between two moments leaves a file that opens on the way that these lines tell from a state, and what they
+-- tell stays; and unless the disk failed they lead to a state of the other moment, in which a stop leaves only what
+-- opens to the file's map.
 pub record LeavesOnTheWay (old new : Scene) (answer : PlaysEnd) (state : State) (lines : List Line) : Type 0 where
   pub stops : LeavesOnly old.over.history new.over.history (OpensOnTheWay (form_at old.over.world) state (law_lines lines))
+  pub stays : StaysTold (form_at old.over.world) old.over.history new.over.history state (law_lines lines)
   pub left : UnlessBroken answer ((after : State) × IsStateAt new after × Leads (form_at old.over.world) state (law_lines lines) after × IsSafe (form_at old.over.world) new.over.history)
 
 -- Plays ended so between two moments, and their lines were written, or a front of the text of these. Unless the disk
 -- failed these lines tell the plays, as far as they came, from each state of the first moment to one of the other, and
 -- all plays where these are done. Where a stop at the first moment leaves only what opens to the file's map, and the
--- lines are transacted, stops leave what opens on the way.
+-- lines are transacted, stops leave what opens on the way, and what is told stays.
 pub record StopsTold (disk_tells output_tells : Bool) (old new : Scene) (plays : List Play) (answer : PlaysEnd) : Type 0 where
   pub lines : List Line
   pub whole : answer ≡ Ok (Ok tt) → IsTrue output_tells → new.written ≡ old.written ++ report_text lines
@@ -79,15 +81,15 @@ pub record StopsOver (w : Whole) (disk_tells output_tells : Bool) (plays : List 
   pub whole : done → IsTrue output_tells → WroteWhole lines before after
   pub left : sound → IsTrue disk_tells → (state : State) → IsStateOf w old state → ComesToImage (form_at w) state plays lines (seen now)
   pub stops : IsTrue disk_tells → (state : State) → IsStateOf w old state → IsSafe (form_at w) old → IsTransacted (form_at w) state (law_lines lines)
-      → LeavesOnly old now (OpensOnTheWay (form_at w) state (law_lines lines))
+      → OpensAndStays (form_at w) old now state (law_lines lines)
 
 -- Lines of a report, from a world just loaded over the image that the file was read as at first, were printed, or a
 -- front of them; and where the run is done, all of them, and behind them nothing but the lines of unfinished commands.
 -- Where the disk is sound they tell these plays as far as they came, to a state as whose file what is left is read.
 -- Where in no state that they pass an opener is in the middle of a change outside a transaction, and all of the file
 -- was on the medium at first, every stop since then leaves a file that opens to the map and the sequence number of a
--- state that they pass, or of the transaction whose Commit was just shutting its gate. A file whose gate was open at
--- first has to be one whose undo changes no byte by which its header is known.
+-- state that they pass, or of the transaction whose Commit was just shutting its gate; and what they tell stays. A file
+-- whose gate was open at first has to be one whose undo changes no byte by which its header is known.
 pub record StopsOfTurns (f : Form) (options : Options) (plays : List Play) (old now : History) (told : Bool) (done sound : Type 0) (before after : List ℕ) : Type 0 where
   pub lines : List Line
   pub start : State

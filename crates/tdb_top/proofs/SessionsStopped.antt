@@ -25,6 +25,7 @@ use Rattle.tdb_tool.specs.declared.fault.SessionFault.TheVariants as F
 use Rattle.tdb_tool.specs.declared.order.Order.{Order}
 use Rattle.tdb_commands.specs.InLaw.{options_of}
 use Rattle.tdb_world.specs.Courses.Stops.{OpensOnTheWay}
+use Rattle.tdb_world.proofs.Courses.Stopping.{nothing_stays}
 use Rattle.tdb_world.specs.Died.{IsReadAs}
 use Rattle.tdb_answer.specs.declared.ending.Ending.{Ending}
 use Rattle.tdb_answer.specs.declared.ending.Ending.TheVariants.{DeviceFault}
@@ -76,7 +77,10 @@ module _ (limit : ℕ) (input : Input) (old now : History) (told : Bool) (sound 
           came = came_more f [] (session_parts []) start start [] [] (all_came f [] start start [] [] (refl, refl, refl));
           lawful = tt;
           printed = λ out. (0, omega arith, same ∙ sym (append-nil before));
-          stops = λ quiet again calm. leaves_weaker old now (Reopens r) (OpensOnTheWay f start []) (start_opens f r start [] over) (safe quiet can.opens again);
+          stops = λ quiet again calm. record {
+            opens = leaves_weaker old now (Reopens r) (OpensOnTheWay f start []) (start_opens f r start [] over) (safe quiet can.opens again);
+            stays = nothing_stays f old now start;
+          };
           heard = tt;
         },
       )

@@ -2,7 +2,7 @@
 use Rattle.std.proofs.Common.{ℕ, List, Result, Ok, sym, subst}
 use Rattle.std.specs.Prelude.{Bool}
 use Rattle.tdb_disk.specs.History.{History, seen}
-use Rattle.tdb_disk.proofs.Runs.{leaves_join, leaves_weaker}
+use Rattle.tdb_disk.proofs.Runs.{leaves_weaker}
 use Rattle.tdb_space.specs.Form.{Form, form_of}
 use Rattle.tdb_space.specs.Undoing.{Reopens}
 use Rattle.tdb_law.specs.Lines.{Line as LawLine}
@@ -19,6 +19,7 @@ use Rattle.tdb_tool.specs.declared.fault.SessionEnd.{SessionEnd}
 use Rattle.tdb_tool.specs.declared.fault.SessionFault.{SessionFault}
 use Rattle.tdb_tool.specs.declared.order.Order.{Order}
 use Rattle.tdb_world.specs.Courses.Stops.{OpensOnTheWay}
+use Rattle.tdb_world.proofs.Courses.Stopping.{opens_before}
 use Rattle.tdb_answer.specs.Commands.Session.{session_options, SessionOn}
 use Rattle.tdb_answer.specs.Input.{Input}
 use Rattle.tdb_open.specs.Opening.{opened_bytes, CanOpen}
@@ -30,9 +31,8 @@ use Rattle.tdb_answer.proofs.StopsTurning.{start_opens, opened_quiet}
 module _ (options : Options) (old mid now : History) (can : CanOpen (seen old)) (safe : OpensSafely old mid) (opened : IsOpened options old mid) (f : Form) where
   since : (start : State) (lines : List LawLine) → IsOver f (seen mid) start → StopsOpen f mid now start lines → StopsSince f old now start lines
   since start lines over stops quiet again calm =
-      let way = OpensOnTheWay f start lines in
-      leaves_join old mid now way
-      (leaves_weaker old mid (Reopens (opened_bytes (seen old))) way (λ c reopens. start_opens f (seen mid) start lines over c (subst (λ r. Reopens r c) (sym opened.reads) reopens)) (safe quiet can.opens again))
+      opens_before f old mid now start lines
+      (leaves_weaker old mid (Reopens (opened_bytes (seen old))) (OpensOnTheWay f start lines) (λ c reopens. start_opens f (seen mid) start lines over c (subst (λ r. Reopens r c) (sym opened.reads) reopens)) (safe quiet can.opens again))
       (stops (opened_quiet options old mid opened.left quiet) calm)
 
   module _ (orders : List Order) (told : Bool) (before after : List ℕ) (Hear Hears : List Line → Type 0) (softer : (lines : List Line) → Hear lines → Hears lines) where

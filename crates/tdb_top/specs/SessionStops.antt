@@ -21,8 +21,8 @@ use Rattle.tdb_answer.specs.Stops.{WroteLine}
 -- state as whose file what is left is read. Where in no state that its lines pass an opener is in the middle of a
 -- change outside a transaction, and all of the file was on the medium at first, every stop since then leaves a file
 -- that opens to the map and the sequence number of a state that they pass, or of the transaction whose Commit was just
--- shutting its gate. A file whose gate was open at first has to be one whose undo changes no byte by which its header
--- is known.
+-- shutting its gate; and what they tell stays. A file whose gate was open at first has to be one whose undo changes no
+-- byte by which its header is known.
 abbrev pub StopsOfSession : ℕ → Input → History → History → Bool → Type 0 → List ℕ → List ℕ → Type 0
 StopsOfSession limit input old now told sound before after =
     (orders : List Order) × (IsTrue input.tells → BeginsBy input.text orders) × (new : State) × (sound → IsLeftAs (form_of (opened_bytes (seen old))) (seen now) new)
