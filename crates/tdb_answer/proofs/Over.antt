@@ -1,5 +1,5 @@
 -- Plays over an opened image, from a world just loaded.
-use Rattle.std.proofs.Common.{◌≡◌, ℕ, List, ◌++◌, Ok, Err, refl, sym, ◌∙◌, ap, subst}
+use Rattle.std.proofs.Common.{◌≡◌, ℕ, List, [], ◌++◌, false, Ok, Err, refl, sym, ◌∙◌, ap, subst}
 use Rattle.std.specs.Prelude.{Bool, IsTrue}
 use Rattle.std.proofs.lemmas.List.{append_assoc, map-append}
 use Rattle.tdb_space.specs.Form.{Form}
@@ -23,6 +23,7 @@ use Rattle.tdb_tool.specs.Whole.{beginning_over}
 use Rattle.tdb_answer.specs.Commands.Turns.{LeadsTo, CameOver, report_so_far, report_whole}
 use Rattle.tdb_answer.specs.declared.ending.Unprinted.TheVariants as Rest
 use Rattle.tdb_open.specs.declared.halt.Fault.TheVariants as F
+use Rattle.tdb_open.specs.Loading.{OpensToTurn}
 use Rattle.tdb_answer.specs.Playing.{PlaysEnd, UnlessBroken, IsUnbroken, TellsAll, TellsFront, RunsTo, PlayedFront, PlayedOver}
 use Rattle.tdb_log.specs.Logs.{Logged}
 use Rattle.tdb_answer.proofs.Coming.{text_more}
@@ -71,23 +72,24 @@ module _ (f : Form) (options : Options) (a : List ℕ) (plays : List Play) (old 
     whole_came : CameOver f options a b
     whole_came = (plays, p.0, new, record { old = old; loaded = loaded; over = over; came = whole_comes f (law_plays plays) old new (law_lines p.0) p.1 }, is)
 
-    pub finished : ReportIsLawful → (answer : PlaysEnd) → IsUnbroken answer → (answer ≡ Ok (Ok tt) → IsTrue told → now ≡ mid ++ report_text more) → (IsTrue told → WroteFront mid (report_text more) now)
+    pub finished : ReportIsLawful → (more ≡ [] → options.read_only ≡ false → OpensToTurn options b) → (answer : PlaysEnd) → IsUnbroken answer → (answer ≡ Ok (Ok tt) → IsTrue told → now ≡ mid ++ report_text more) → (IsTrue told → WroteFront mid (report_text more) now)
         → PlayedOver f options a plays b told before now logs later answer
-    finished law (Ok (Ok v)) un all front = record {
+    finished law again (Ok (Ok v)) un all front = record {
       lines = p.0;
       left = new;
       leads = leads;
       over = is;
       more = more;
       ends = ends;
+      again = again;
       lawful = lawful law;
       printed = λ heard. all refl heard ∙ ap (λ m. m ++ report_text more) (p.2 heard) ∙ append_assoc before (report_text p.0) (report_text more) ∙ ap (λ t. before ++ t) (sym text);
       heard = p.3;
     }
-    finished law (Ok (Err F.Device)) un all front = absurd un
-    finished law (Ok (Err F.Memory)) un all front = (whole_front (Ok (Err F.Memory)) un front, whole_came)
-    finished law (Ok (Err F.Log)) un all front = absurd un
-    finished law (Err Rest.Report) un all front = (whole_front (Err Rest.Report) un front, whole_came)
-    finished law (Err Rest.Fault) un all front = absurd un
-    finished law (Err Rest.Pairs) un all front = absurd un
-    finished law (Err Rest.Files) un all front = absurd un
+    finished law again (Ok (Err F.Device)) un all front = absurd un
+    finished law again (Ok (Err F.Memory)) un all front = (whole_front (Ok (Err F.Memory)) un front, whole_came)
+    finished law again (Ok (Err F.Log)) un all front = absurd un
+    finished law again (Err Rest.Report) un all front = (whole_front (Err Rest.Report) un front, whole_came)
+    finished law again (Err Rest.Fault) un all front = absurd un
+    finished law again (Err Rest.Pairs) un all front = absurd un
+    finished law again (Err Rest.Files) un all front = absurd un

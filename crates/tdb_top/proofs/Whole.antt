@@ -106,6 +106,7 @@ module _ (options : Options) (input : Input) (tells : Bool) (w0 w1 w2 : List ℕ
         over = p.whole.over;
         more = p.whole.more;
         ends = p.whole.ends;
+        again = p.whole.again;
         lawful = p.whole.lawful;
         printed = λ told. same told ∙ p.whole.printed told;
         heard = p.whole.heard;

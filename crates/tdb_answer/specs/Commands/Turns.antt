@@ -1,5 +1,5 @@
 -- The command that takes the plays of a script over a file, and prints their report.
-use Rattle.std.specs.Prelude.{◌≡◌, ◌⊎◌, ℕ, Bool, IsTrue, Option, None, Some, Ok, Err, List, [], ◌++◌, take}
+use Rattle.std.specs.Prelude.{◌≡◌, ◌⊎◌, ℕ, Bool, IsTrue, false, Option, None, Some, Ok, Err, List, [], ◌++◌, take}
 use Rattle.tdb_disk.specs.Count.{Rose}
 use Rattle.tdb_disk.specs.History.{History, seen}
 use Rattle.tdb_space.specs.Form.{Form, form_of}
@@ -68,8 +68,9 @@ pub record CameTo (f : Form) (options : Options) (img : List ℕ) (plays : List 
   pub came : ComesTo f old (law_plays plays) (law_lines lines) new
 
 -- All plays were taken over the image a, and b is read after them as the file of the state that they led to. Their
--- report was printed: its lines, and behind them one for each opener with an unfinished command. The whole report is
--- lawful from the map of a on. The logs heard of the lines of the plays.
+-- report was printed: its lines, and behind them one for each opener with an unfinished command. Where there is none
+-- such, b can be opened as a was, unless that was to be read alone. The whole report is lawful from the map of a on.
+-- The logs heard of the lines of the plays.
 pub record PlayedWhole (f : Form) (options : Options) (a : List ℕ) (plays : List Play) (b : List ℕ) (told : Bool) (before now : List ℕ) (logs later : List Logged) : Type 0 where
   pub lines : List Line
   pub left : State
@@ -77,6 +78,7 @@ pub record PlayedWhole (f : Form) (options : Options) (a : List ℕ) (plays : Li
   pub over : IsReadAs f b left
   pub more : List Line
   pub ends : EndsWith left more
+  pub again : more ≡ [] → options.read_only ≡ false → OpensToTurn options b
   pub lawful : IsLawful f (beginning_over f options a) (law_lines (lines ++ more))
   pub printed : IsTrue told → now ≡ before ++ report_text (lines ++ more)
   pub heard : Heard logs lines later

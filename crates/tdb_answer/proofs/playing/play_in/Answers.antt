@@ -1,14 +1,19 @@
-use Rattle.std.proofs.Common.{◌≡◌, ◌∙◌, true, false, Ok, Err, length, sym, ap, subst}
+use Rattle.std.proofs.Common.{◌≡◌, ◌∙◌, ℕ, true, false, [], Ok, Err, length, sym, ap, subst, arith}
 use Rattle.std.proofs.lemmas.Result.{err_from_is_err_and}
 use Rattle.tdb_disk.specs.Count.{Rose}
-use Rattle.tdb_disk.specs.History.{seen}
+use Rattle.tdb_disk.specs.History.{History, seen}
 use Rattle.tdb_space.specs.Form.{form_in}
 use Rattle.tdb_law.specs.World.{State}
 use Rattle.tdb_world.specs.Died.{IsReadAs}
 use Rattle.tdb_world.specs.OverFile.{HasState}
-use Rattle.tdb_world.specs.Whole.{form_at, options_at}
+use Rattle.tdb_commands.specs.declared.options.Options.{Options}
+use Rattle.tdb_world.specs.States.{IsStateOf}
+use Rattle.tdb_world.specs.Whole.{form_at, options_at, Whole, WorldFits}
 use Rattle.tdb_world.proofs.Reopening.{state_reopens}
+use Rattle.tdb_world.specs.Courses.Unfinished.{EndsWith}
+use Rattle.tdb_world.proofs.Courses.EndedFiles.{ended_opens}
 use Rattle.tdb_world.proofs.Courses.Finishing.{report_lawful, ends_alike}
+use Rattle.tdb_open.specs.Loading.{OpensToTurn}
 use Rattle.tdb_world.specs.Loaded.{IsJustLoaded}
 use Rattle.tdb_world.specs.Courses.Scene.{Scene, scene}
 use Rattle.tdb_answer.specs.Playing.{PlaysEnd, UnlessBroken, OnBroken, RunsTo, PlayedOver}
@@ -59,6 +64,17 @@ returns-in_err-play_each-clause-rose g c =
 pub returns-in-Err-clause-rose : goal.returns-in-Err-clause-rose
 returns-in-Err-clause-rose g c told = rose g ((goal.at.returns-in-Err-clause-rose g c).After-play_each) (Ok (Err c.in-Err.fault)) told (c.in_ok-play_each.was ∙ ap Ok c.in-Err.is)
 
+-- where no command is unfinished the file can be opened as it was
+opens_again : (w : Whole) (size : ℕ) (h : History) (state : State) → WorldFits w (seen h) size → length (seen h) ≡ size → IsStateOf w h state → EndsWith state [] → (options_at w).read_only ≡ false → OpensToTurn (options_at w) (seen h)
+opens_again w size h state F sized is ends writes =
+    let short = F.openers.short in
+    let limit = F.openers.limit in
+    record {
+      can_open = record { opens = ended_opens w h state is ends; within = omega (arith, sized, short, limit) };
+      within = omega (arith, sized, short);
+      shut = λ only. (let wrong : true ≡ false = sym only ∙ writes in absurd (cc));
+    }
+
 -- they were all taken
 pub returns-in-Ok-clause-played : goal.returns-in-Ok-clause-played
 returns-in-Ok-clause-played g c told state just =
@@ -70,8 +86,13 @@ returns-in-Ok-clause-played g c told state just =
     let read = subst (λ r. UnlessBroken r (IsReadAs (form_at c.args.world.now.world) (seen h) p.0)) all (is_read g a p.0 p.1) in
     let fits = c.stands.ensures.fits (subst (λ r. UnlessBroken r (c.play_each.new.world.spent ≡ false)) all c.play_each.ensures.ran.unspent) in
     let e = c.tell_unfinished.ensures.told in
+    let ends = ends_alike c.play_each.new.world.world (seen h) c.play_each.new.world.size h p.0 e.lines fits p.1 e.is_end in
+    let same = subst (λ r. UnlessBroken r (options_at c.play_each.new.world.world ≡ options_at c.args.world.now.world)) all c.play_each.ensures.ran.options in
+    let again : e.lines ≡ [] → (options_at c.args.world.now.world).read_only ≡ false → OpensToTurn (options_at c.args.world.now.world) (seen h) =
+    λ none writes. subst (λ (o : Options). OpensToTurn o (seen h)) same
+    (opens_again c.play_each.new.world.world c.play_each.new.world.size h p.0 fits (c.stands.ensures.sized told) p.1 (subst (EndsWith p.0) none ends) (ap (λ (o : Options). o.read_only) same ∙ writes)) in
     finished (form_at c.args.world.now.world) (options_at c.args.world.now.world) (seen c.args.world.now.history) c.args.plays.now state just.loaded just.over g.K.Sink.tells (g.L.Logs.logs c.args.logs.now) (g.L.Logs.logs c.play_each.new.logs)
-    p.0 e.lines (ends_alike c.play_each.new.world.world (seen h) c.play_each.new.world.size h p.0 e.lines fits p.1 e.is_end) (seen h) (g.K.Sink.written c.args.output.now) (g.K.Sink.written c.play_each.new.output) (g.K.Sink.written c.tell_unfinished.new.output) read p.2 report_lawful
+    p.0 e.lines ends (seen h) (g.K.Sink.written c.args.output.now) (g.K.Sink.written c.play_each.new.output) (g.K.Sink.written c.tell_unfinished.new.output) read p.2 report_lawful again
     c.tell_unfinished.result c.tell_unfinished.ensures.unbroken e.whole e.front
 
 -- before the plays and after them
