@@ -1,6 +1,7 @@
 -- What a turn makes of the image, and what is known of it where the cursor stands then.
 use Rattle.std.proofs.Common.{◌≡◌, ℕ, ◌<◌, List, Option, Some, None, refl, sym, ◌∙◌, ap, subst, inl, inr}
-use Rattle.std.specs.Prelude.{Result, IfOk}
+use Rattle.std.specs.Prelude.{Result, IfOk, OnErr}
+use Rattle.std.proofs.lemmas.Result.{on_err_weaker}
 use Rattle.std.proofs.lemmas.Bool.{cases_eq}
 use Rattle.tdb_words.specs.declared.record.TheConstants.{USED}
 use Rattle.tdb_space.specs.Form.{Form}
@@ -21,7 +22,7 @@ use Rattle.tdb_walk.specs.declared.standing.Standing.TheVariants.{Before, On, Pa
 use Rattle.tdb_walk.specs.declared.stage.Stage.{Stage}
 use Rattle.tdb_walk.specs.declared.stage.Stage.TheVariants.{Rested, Reading, Writing, Freeing}
 use Rattle.tdb_walk.specs.NextLive.{StandsIn}
-use Rattle.tdb_walk.specs.Purging.{IsDeadIn, IsDeadRecord, IsPrepared, IsPurged, PurgesOf}
+use Rattle.tdb_walk.specs.Purging.{IsDeadIn, IsDeadRecord, IsPrepared, IsPurged, PurgesOf, PurgeBroken}
 use Rattle.tdb_walk.specs.Cursors.{At, Knows, LeaveLed, MoveLed, StepMade, dead_of}
 use Rattle.tdb_walk.specs.Cursors.LeaveLed.{leaves, cannot}
 use Rattle.tdb_walk.specs.Cursors.Came.{shown, barred, wants}
@@ -30,6 +31,7 @@ use Rattle.tdb_walk.specs.Cursors.StepMade.{keeps, purges, waits, starves}
 use Rattle.tdb_walk.proofs.Ahead.{none_some}
 use Rattle.tdb_walk.proofs.Arrived.{met_member}
 use Rattle.tdb_walk.proofs.Coming.{met_used}
+use Rattle.tdb_walk.proofs.Purged.{purge_nothing}
 use Rattle.tdb_walk.proofs.Turns.{ok_more}
 use Rattle.tdb_walk.proofs.Views.{moved}
 
@@ -118,3 +120,28 @@ module _ (f : Form) (a b : List ℕ) (hands : List HandPair) (at later : At) (tu
   moved_knows ps owner own from (stops chain other byte way says there) made = later_knows _ there tt
   moved_knows ps owner own from (ends way says ended) made = later_knows _ ended tt
   moved_knows ps owner own from (gives_up says ended) made = later_knows _ ended tt
+
+-- where nothing was written
+pub broken_nothing : (f : Form) (a b : List ℕ) (dead : Option DeadRecord) (hands : List HandPair) → AcceptWith f a hands → b ≡ a → PurgeBroken f a b dead hands
+broken_nothing f a b None hands A same = same
+broken_nothing f a b (Some d) hands A same = purge_nothing f a b d.chain hands A same
+
+-- the purge of a place that was prepared failed
+pub purge_broken : (f f2 : Form) (img img2 b : List ℕ) (hands : List HandPair) (at : At) (asked : Option DeadRecord) (found : Option Found)
+    → asked ≡ dead_of at.place at.stage → f2 ≡ f → img2 ≡ img
+    → (AcceptWith f img hands → IsDeadRecord f img asked → IsPrepared f img asked found)
+    → ((dead : Option DeadRecord) → AcceptWith f2 img2 hands → IsPrepared f2 img2 dead found → PurgeBroken f2 img2 b dead hands)
+    → AcceptWith f img hands → Knows f img at.place at.stage → PurgeBroken f img b (dead_of at.place at.stage) hands
+purge_broken f f2 img img2 b hands at asked found is form image prepared broken A knows =
+    let ready = prepared A (subst (IsDeadRecord f img) (sym is) (dead_known f img at.place at.stage knows)) in
+    subst (λ d. PurgeBroken f img b d hands) is
+    (moved (λ x i. AcceptWith x i hands → IsPrepared x i asked found → PurgeBroken x i b asked hands) f f2 img img2 form image (broken asked) A ready)
+
+-- a turn failed over a view that was looked at before
+pub broken_then : {E : Type 0} (told small smaller : Type 0) (r : Result Turn E) (f f2 : Form) (img img2 b : List ℕ) (at : At) → f2 ≡ f → img2 ≡ img → (small → smaller)
+    → OnErr r (told → smaller → (hands : List HandPair) → AcceptWith f2 img2 hands → Knows f2 img2 at.place at.stage → PurgeBroken f2 img2 b (dead_of at.place at.stage) hands)
+    → OnErr r (told → small → (hands : List HandPair) → AcceptWith f img hands → Knows f img at.place at.stage → PurgeBroken f img b (dead_of at.place at.stage) hands)
+broken_then told small smaller r f f2 img img2 b at form image less broken =
+    on_err_weaker r (λ broken told is hands A knows.
+    moved (λ x i. AcceptWith x i hands → Knows x i at.place at.stage → PurgeBroken x i b (dead_of at.place at.stage) hands) f f2 img img2 form image (broken told (less is) hands) A knows)
+    broken

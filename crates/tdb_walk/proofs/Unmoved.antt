@@ -1,7 +1,7 @@
 -- A dead record that leaves its chain leaves the keys that are further on for each walk that doesn't stand on it.
 use Rattle.std.proofs.Common.{◌≡◌, ℕ, ◌+◌, ◌<◌, ◌≤◌, List, [], ◌∷◌, length, Bool, true, false, cond, ◌==◌, nat_le, nat_lt, refl, sym, ◌∙◌, ap, subst, inl, inr, arith, ◌^◌}
 use Rattle.std.specs.Prelude.{◌&&◌, ◌||◌, slice_index}
-use Rattle.std.proofs.lemmas.Bool.{cases_eq, cases_lt, eq-eqb, ne_eqb, eqb-true}
+use Rattle.std.proofs.lemmas.Bool.{cases_eq, eq-eqb, ne_eqb, eqb-true}
 use Rattle.tdb_words.specs.declared.record.TheConstants.{USED}
 use Rattle.tdb_words.specs.Word.{word}
 use Rattle.tdb_words.proofs.Words.{word_agrees}
@@ -13,13 +13,14 @@ use Rattle.tdb_space.specs.Extents.{HandPair, times, extents}
 use Rattle.tdb_space.specs.Accepted.{AllFiled, AcceptWith}
 use Rattle.tdb_space.specs.Stays.{ChainStays, ChainsStay}
 use Rattle.tdb_space.proofs.Extents.Counts.{times_all, times_member}
-use Rattle.tdb_space.proofs.Exchange.Kept.{Bodies, words_kept, key_kept, bodies_still, times_within}
+use Rattle.tdb_space.proofs.Exchange.Kept.{Bodies, words_kept, key_kept, bodies_still}
 use Rattle.tdb_space.proofs.Chain.Members.{bodies_from}
 use Rattle.tdb_space.proofs.Pairs.Maps.{home_below}
 use Rattle.tdb_space.proofs.Chain.Unlinks.{unlinked_bodies}
 use Rattle.tdb_chain.specs.declared.place.Place.{Place as Found}
 use Rattle.tdb_chain.specs.Place.{IsPlace}
 use Rattle.tdb_chain.specs.Changed.{ChainChanged, Purged, OldOrWord}
+use Rattle.tdb_chain.proofs.Changed.{header_stays}
 use Rattle.tdb_chain.proofs.Unlinked.{led_past_place}
 use Rattle.tdb_law.specs.Openers.{is_key}
 use Rattle.tdb_law.specs.Layout.{Place, cells, chains_in, behind, live_in, ahead_of}
@@ -175,12 +176,6 @@ module _ (f : Form) (a m b : List ℕ) (chain off : ℕ) (hands news : List Hand
   ]
 
 -- the sequence number stays where one chain changes
-chain_low : (f : Form) (a : List ℕ) (hands : List HandPair) (k i : ℕ) → AcceptWith f a hands → k < f.chains → i < 168 → times (extents f.order a (chain_of f a k)) i ≡ 0
-chain_low f a hands k i A low under = elim (cases_lt 0 (times (extents f.order a (chain_of f a k)) i)) [
-  | inl some ↦ let within = times_within f IsChained a (word f.order a (chain_head k)) (chain_of f a k) i (A.chains k low) (omega (arith, some)) in absurd (omega (arith, within.0, under))
-  | inr none ↦ omega (arith, none)
-]
-
 pub number_led : (f : Form) (a m : List ℕ) (k : ℕ) (offs : List ℕ) (before after : List HandPair) → AcceptWith f a before → k < f.chains → ChainChanged f a m k offs [] before after → word f.order m 48 ≡ word f.order a 48
 number_led f a m k offs before after A low C =
-    word_agrees f.order m a 48 (λ i from to. C.others i (inl (omega (arith, to))) (let x = chain_low f a before k i A low (omega (arith, to)) in omega (arith, x)))
+    word_agrees f.order m a 48 (λ i from to. header_stays f a m k offs [] before after low A tt C i (omega (arith, to)))

@@ -29,7 +29,7 @@ use Rattle.tdb_walk.specs.declared.stage.Act.TheVariants.{Lock, Move, End}
 use Rattle.tdb_walk.specs.declared.way.Way.TheVariants as Way
 use Rattle.tdb_walk.specs.declared.purging.DeadRecord.{DeadRecord}
 use Rattle.tdb_walk.specs.NextLive.{place_of}
-use Rattle.tdb_walk.specs.Purging.{IsDeadIn, IsPurged}
+use Rattle.tdb_walk.specs.Purging.{IsDeadIn, IsPurged, PurgeBroken}
 use Rattle.tdb_walk.specs.Way.{IsWay, lock_byte, next_chain, reads_chain}
 use Rattle.tdb_walk.specs.ByteLocks.{Holding, with_byte, reads_all, only_reads, CanHold, IsKeptFrom}
 
@@ -267,6 +267,11 @@ pub data StepMade (f : Form) (a b : List ℕ) (hands : List HandPair) (at later 
   purges : (d : DeadRecord) → dead_of at.place at.stage ≡ Some d → later.stage ≡ Rested → (turn ≡ Done Reply.Memory → ⊥) → IsPurged f a b d.chain d.off hands → StepMade f a b hands at later turn
   waits : (other byte : ℕ) → turn ≡ Blocked other byte → later ≡ at → b ≡ a → StepMade f a b hands at later turn
   starves : turn ≡ Done Reply.Memory → b ≡ a → StepMade f a b hands at later turn
+
+-- what a turn of a cursor leaves where it fails: nothing has changed, but where the turn was to purge a record
+abbrev pub StepStops : Form → List ℕ → List ℕ → At → Type 0
+StepStops f a b at =
+    (hands : List HandPair) → AcceptWith f a hands → Knows f a at.place at.stage → PurgeBroken f a b (dead_of at.place at.stage) hands
 
 -- The key of the pair that was shown last, after a turn: that of its reply, where it shows one.
 abbrev pub shown_after : List ℕ → Turn → List ℕ

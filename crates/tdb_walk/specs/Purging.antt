@@ -1,14 +1,14 @@
 -- What a purge of a dead record makes of an image.
-use Rattle.std.specs.Prelude.{◌≡◌, ◌<◌, ℕ, List, Option, None, Some}
+use Rattle.std.specs.Prelude.{◌≡◌, ◌<◌, ℕ, ◌+◌, List, ◌++◌, slice_index, Option, None, Some}
 use Rattle.tdb_words.specs.declared.record.TheConstants.{USED}
 use Rattle.tdb_words.specs.Header.{sequence_at}
 use Rattle.tdb_words.specs.Record.{rec_at}
 use Rattle.tdb_words.specs.Word.{word}
-use Rattle.tdb_space.specs.Form.{Form, chain_head}
+use Rattle.tdb_space.specs.Form.{Form, free_head, chain_head}
 use Rattle.tdb_space.specs.Record.{magic_of, rec_len_of}
 use Rattle.tdb_space.specs.Chain.{chain_of, free_of, without, Leads, Member}
 use Rattle.tdb_space.specs.Pairs.{map_of}
-use Rattle.tdb_space.specs.Extents.{HandPair}
+use Rattle.tdb_space.specs.Extents.{HandPair, once, times, extents}
 use Rattle.tdb_space.specs.Accepted.{AcceptWith}
 use Rattle.tdb_space.specs.Stays.{ChangesOnly}
 use Rattle.tdb_space.specs.Spare.{Spare, RoomForAll}
@@ -48,6 +48,18 @@ pub record IsPurged (f : Form) (a b : List ℕ) (chain off : ℕ) (hands : List 
   pub ahead : (place : WalkPlace) → (place ≡ on_record chain off → ⊥) → (k : List ℕ) → ahead_of f (chains_in f b) place k ≡ ahead_of f (chains_in f a) place k
   pub list : free_pairs f b (free_of f b) ≡ give_to (free_pairs f a (free_of f a)) (off, rec_len_of f.order a off)
 
+-- From image a, accepted with some hands, to image b a purge of a record of a chain failed. At most bytes of these
+-- changed: the heads of the chain and of the free list, and the records of both. So each byte of the header, of the
+-- undo area, of all other chains and of the hands is as it was. Image b is accepted with the hands, and with what is in
+-- no list then: each head leads to whole records alone. The map stays.
+pub record PurgeStopped (f : Form) (a b : List ℕ) (chain : ℕ) (hands : List HandPair) : Type 0 where
+  pub bytes : (i : ℕ) → once (chain_head chain, 4) i + once (free_head, 4) i + times (extents f.order a (chain_of f a chain)) i + times (extents f.order a (free_of f a)) i ≡ 0
+      → slice_index b i ≡ slice_index a i
+  pub only : ChangesOnly f a b (λ k. k ≡ chain)
+  pub out : List HandPair
+  pub accepted : AcceptWith f b (out ++ hands)
+  pub map : (key : List ℕ) → map_of f b key ≡ map_of f a key
+
 -- a record that a purge is asked for is dead, and one of a chain
 abbrev pub IsDeadRecord : Form → List ℕ → Option DeadRecord → Type 0
 IsDeadRecord f img None = Unit {0}
@@ -69,6 +81,11 @@ pub record CanPurge (size : ℕ) (spare : Spare) (p : Place) : Type 0 where
 abbrev pub PurgesOf : Form → List ℕ → List ℕ → Option DeadRecord → List HandPair → Type 0
 PurgesOf f a b None hands = b ≡ a
 PurgesOf f a b (Some d) hands = IsPurged f a b d.chain d.off hands
+
+-- what a purge that failed leaves, where there is a record to purge; else nothing was changed
+abbrev pub PurgeBroken : Form → List ℕ → List ℕ → Option DeadRecord → List HandPair → Type 0
+PurgeBroken f a b None hands = b ≡ a
+PurgeBroken f a b (Some d) hands = PurgeStopped f a b d.chain hands
 
 -- a call that looks and makes room for writes: it leaves the length, the bytes, what the header states, the disk under
 -- the view, and the references that the view holds

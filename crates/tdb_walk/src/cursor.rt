@@ -13,7 +13,7 @@ ghost use Rattle.tdb_locks.specs.LockTable.{held};
 ghost use Rattle.tdb_walk.specs.NextLive.{StandsIn, IsWithin};
 ghost use Rattle.tdb_walk.specs.Way.{SameOthers, SameLocks};
 ghost use Rattle.tdb_walk.specs.ByteLocks.{HoldsWords, only_reads};
-ghost use Rattle.tdb_walk.specs.Cursors.{rested, IsPlaced, spot_of, dead_of, HasToPurge, Knows, let_go, held_moved, held_locked, LockLed, LeaveLed, Came, WentTo, MoveLed, StepTaken, StepMade, shown_after};
+ghost use Rattle.tdb_walk.specs.Cursors.{rested, IsPlaced, spot_of, dead_of, HasToPurge, Knows, let_go, held_moved, held_locked, LockLed, LeaveLed, Came, WentTo, MoveLed, StepTaken, StepMade, StepStops, shown_after};
 ghost use Rattle.tdb_locks.specs.declared.turn.Reply.TheVariants.{Memory};
 ghost use Rattle.tdb_locks.specs.declared.turn.Turn.TheVariants.{Done};
 ghost use Rattle.tdb_walk.specs.declared.standing.Standing.TheVariants.{Before, Past};
@@ -200,6 +200,7 @@ impl Cursor {
         ensures locks { IfOk result (λ turn. (o b : ℕ) → held locks.new o b ≡ let_go own.now owner self.old.place self.old.stage self.new.place (held locks.old) o b) }
         ensures stands { OnErr result (self.new ≡ self.old) }
         ensures kept { OnErr result (locks.new ≡ locks.old) }
+        ensures stopped { OnErr result (IsTrue S.tells → S.size s.old < 2 ^ 32 → StepStops (S.form s.old) (S.image s.old) (S.image s.new) self.old) }
         ensures idle { dead_of self.old.place self.old.stage ≡ None → Looked S.Space s.old s.new }
         ensures size { S.size s.new ≡ S.size s.old }
         ensures wrote { Wrote S.Space s.old s.new }
@@ -261,6 +262,7 @@ impl Cursor {
         ensures unshown { OnErr result (shown.new ≡ shown.old) }
         ensures stands { OnErr result (self.new ≡ self.old) }
         ensures kept { OnErr result (dead_of self.old.place self.old.stage ≡ None → locks.new ≡ locks.old) }
+        ensures stopped { OnErr result (IsTrue S.tells → S.size s.old < 2 ^ 32 → StepStops (S.form s.old) (S.image s.old) (S.image s.new) self.old) }
         ensures idle { dead_of self.old.place self.old.stage ≡ None → Looked S.Space s.old s.new }
         ensures size { S.size s.new ≡ S.size s.old }
         ensures wrote { Wrote S.Space s.old s.new }
@@ -318,6 +320,7 @@ impl Cursor {
         ensures unshown { OnErr result (shown.new ≡ shown.old) }
         ensures stands { OnErr result (self.new ≡ self.old) }
         ensures kept { OnErr result (dead_of self.old.place self.old.stage ≡ None → SameLocks locks.old locks.new) }
+        ensures stopped { OnErr result (IsTrue S.tells → S.size s.old < 2 ^ 32 → StepStops (S.form s.old) (S.image s.old) (S.image s.new) self.old) }
         ensures idle { dead_of self.old.place self.old.stage ≡ None → Looked S.Space s.old s.new }
         ensures size { S.size s.new ≡ S.size s.old }
         ensures wrote { Wrote S.Space s.old s.new }
@@ -402,6 +405,7 @@ impl Cursor {
         ensures unshown { OnErr result (shown.new ≡ shown.old) }
         ensures stands { OnErr result (self.new ≡ self.old) }
         ensures kept { OnErr result (dead_of self.old.place self.old.stage ≡ None → SameLocks locks.old locks.new) }
+        ensures stopped { OnErr result (IsTrue S.tells → S.size s.old < 2 ^ 32 → StepStops (S.form s.old) (S.image s.old) (S.image s.new) self.old) }
         ensures idle { dead_of self.old.place self.old.stage ≡ None → Looked S.Space s.old s.new }
         ensures size { S.size s.new ≡ S.size s.old }
         ensures wrote { Wrote S.Space s.old s.new }

@@ -9,7 +9,7 @@ ghost use Rattle.tdb_space.specs.Form.{data_start};
 ghost use Rattle.tdb_space.specs.Extents.{HandPair};
 ghost use Rattle.tdb_space.specs.Accepted.{AcceptWith};
 ghost use Rattle.tdb_chain.specs.Place.{StandsWithin};
-ghost use Rattle.tdb_walk.specs.Purging.{IsDeadIn, FindsPlace, IsPlaceIn, IsPurged, IsDeadRecord, IsPrepared, CanPurge, PurgesOf, Readied};
+ghost use Rattle.tdb_walk.specs.Purging.{IsDeadIn, FindsPlace, IsPlaceIn, IsPurged, PurgeStopped, IsDeadRecord, IsPrepared, CanPurge, PurgesOf, PurgeBroken, Readied};
 ghost use Rattle.tdb_walk.specs.declared.purging.DeadRecord.{DeadRecord};
 ghost use Rattle.tdb_walk.specs.declared.refusal.WalkRefusal.TheVariants.{Io, Memory};
 
@@ -118,6 +118,8 @@ fn purge_at<S: Space>(s: &mut S, place: Place) -> Result<(), SpaceIo>
     requires can { CanPurge (S.size s.old) (S.spare s.old) place }
     ensures purged { OnOk result (IsTrue S.tells → S.size s.old < 2 ^ 32 → (hands : List HandPair) → AcceptWith (S.form s.old) (S.image s.old) hands
         → (chain off : ℕ) → chain < (S.form s.old).chains → IsPlaceIn (S.form s.old) (S.image s.old) chain off place → IsPurged (S.form s.old) (S.image s.old) (S.image s.new) chain off hands) }
+    ensures stopped { OnErr result (IsTrue S.tells → S.size s.old < 2 ^ 32 → (hands : List HandPair) → AcceptWith (S.form s.old) (S.image s.old) hands
+        → (chain off : ℕ) → chain < (S.form s.old).chains → IsPlaceIn (S.form s.old) (S.image s.old) chain off place → PurgeStopped (S.form s.old) (S.image s.old) (S.image s.new) chain hands) }
     ensures size { S.size s.new ≡ S.size s.old }
     ensures wrote { Wrote S.Space s.old s.new }
     ensures cause { HasCause (S.faults s.old) (S.faults s.new) result }
@@ -135,6 +137,8 @@ pub(crate) fn purge_prepared<S: Space>(s: &mut S, place: Option<Place>) -> Resul
     requires can { IfSome place (CanPurge (S.size s.old) (S.spare s.old)) }
     ensures purged { OnOk result (IsTrue S.tells → S.size s.old < 2 ^ 32 → (hands : List HandPair) → AcceptWith (S.form s.old) (S.image s.old) hands
         → (dead : Option DeadRecord) → IsPrepared (S.form s.old) (S.image s.old) dead place → PurgesOf (S.form s.old) (S.image s.old) (S.image s.new) dead hands) }
+    ensures stopped { OnErr result (IsTrue S.tells → S.size s.old < 2 ^ 32 → (hands : List HandPair) → AcceptWith (S.form s.old) (S.image s.old) hands
+        → (dead : Option DeadRecord) → IsPrepared (S.form s.old) (S.image s.old) dead place → PurgeBroken (S.form s.old) (S.image s.old) (S.image s.new) dead hands) }
     ensures idle { place ≡ None → Looked S.Space s.old s.new }
     ensures asked { OnErr result (place ≡ None → ⊥) }
     ensures size { S.size s.new ≡ S.size s.old }
@@ -152,10 +156,13 @@ pub(crate) fn purge_prepared<S: Space>(s: &mut S, place: Option<Place>) -> Resul
 ///
 /// It goes along the chain up to the record, and along the free list. Room for all writes is made first: with `Memory`
 /// nothing was written. `Io` where the disk failed: then the record may be in its chain, in no list, or in the free
-/// list. Where no dead record of the chain stands there, nothing is written.
+/// list, and each byte of the header, of the undo area and of other chains is as it was. Where no dead record of the
+/// chain stands there, nothing is written.
 pub fn purge_dead<S: Space>(s: &mut S, chain: u32, off: u32) -> Result<(), WalkRefusal>
     ensures purged { OnOk result (IsTrue S.tells → S.size s.old < 2 ^ 32 → (hands : List HandPair) → AcceptWith (S.form s.old) (S.image s.old) hands
         → chain < (S.form s.old).chains → IsDeadIn (S.form s.old) (S.image s.old) chain off → IsPurged (S.form s.old) (S.image s.old) (S.image s.new) chain off hands) }
+    ensures stopped { OnErr result (IsTrue S.tells → S.size s.old < 2 ^ 32 → (hands : List HandPair) → AcceptWith (S.form s.old) (S.image s.old) hands
+        → chain < (S.form s.old).chains → IsDeadIn (S.form s.old) (S.image s.old) chain off → PurgeStopped (S.form s.old) (S.image s.old) (S.image s.new) chain hands) }
     ensures memory { IfErr result (λ e. e ≡ Memory → S.image s.new ≡ S.image s.old) }
     ensures size { S.size s.new ≡ S.size s.old }
     ensures wrote { Wrote S.Space s.old s.new }

@@ -7,7 +7,7 @@ ghost use Rattle.tdb_space.specs.Frame.{Looked, Wrote};
 ghost use Rattle.tdb_space.specs.Accepted.{AcceptWith};
 ghost use Rattle.tdb_walk.specs.Way.{SameOthers, SameLocks};
 ghost use Rattle.tdb_walk.specs.ByteLocks.{HoldsWords};
-ghost use Rattle.tdb_walk.specs.Cursors.{IsPlaced, Knows, StepTaken, StepMade, dead_of, rested, spot_of};
+ghost use Rattle.tdb_walk.specs.Cursors.{IsPlaced, Knows, StepTaken, StepMade, StepStops, dead_of, rested, spot_of};
 ghost use Rattle.tdb_walk.specs.Again.{cursor_after, shown_there};
 ghost use Rattle.tdb_walk.specs.declared.standing.Standing.TheVariants.{Past};
 ghost use Rattle.tdb_locks.specs.declared.turn.Reply.{Reply as ReplyIs};
@@ -83,6 +83,7 @@ impl Walk {
         ensures shown { IfOk result (λ turn. self.new.shown ≡ cursor_after turn self.new.cursor.place self.old.shown) }
         ensures others { SameOthers owner locks.old locks.new }
         ensures stands { OnErr result (self.new ≡ self.old) }
+        ensures stopped { OnErr result (IsTrue S.tells → S.size s.old < 2 ^ 32 → StepStops (S.form s.old) (S.image s.old) (S.image s.new) self.old.cursor) }
         ensures idle { dead_of self.old.cursor.place self.old.cursor.stage ≡ None → Looked S.Space s.old s.new }
         ensures size { S.size s.new ≡ S.size s.old }
         ensures wrote { Wrote S.Space s.old s.new }

@@ -1,13 +1,13 @@
 // The turns of commands on a cursor.
 
-ghost use Rattle.std.specs.Prelude.{◌≡◌, ◌<◌, ◌-◌, length, set, Ok, None, true, false, IfOk, OnErr};
+ghost use Rattle.std.specs.Prelude.{◌≡◌, ◌<◌, ◌-◌, ◌^◌, length, set, Ok, None, true, false, IsTrue, IfOk, OnErr};
 ghost use Rattle.tdb_disk.specs.Count.{HasCause};
 ghost use Rattle.tdb_space.specs.Frame.{Looked, Wrote};
 ghost use Rattle.tdb_walk.specs.Way.{SameOthers};
 ghost use Rattle.tdb_walk.specs.ByteLocks.{HoldsWords};
 ghost use Rattle.tdb_locks.specs.HeldLocks.{nothing_held};
 ghost use Rattle.tdb_walk.specs.declared.standing.Standing.TheVariants.{Past};
-ghost use Rattle.tdb_walk.specs.Cursors.{dead_of, rested};
+ghost use Rattle.tdb_walk.specs.Cursors.{StepStops, dead_of, rested};
 ghost use Rattle.tdb_walk.specs.Again.{cursor_after};
 ghost use Rattle.tdb_locks.specs.declared.turn.Reply.TheVariants.{End};
 ghost use Rattle.tdb_locks.specs.declared.turn.Turn.TheVariants.{Done};
@@ -43,6 +43,7 @@ impl Walk {
         ensures spots { spots.new ≡ set spots.old (owner - 1) (spot_number self.new.cursor.place) }
         ensures others { SameOthers owner locks.old locks.new }
         ensures stands { OnErr result (self.new ≡ self.old) }
+        ensures stopped { OnErr result (IsTrue S.tells → S.size s.old < 2 ^ 32 → StepStops (S.form s.old) (S.image s.old) (S.image s.new) self.old.cursor) }
         ensures idle { dead_of self.old.cursor.place self.old.cursor.stage ≡ None → Looked S.Space s.old s.new }
         ensures size { S.size s.new ≡ S.size s.old }
         ensures wrote { Wrote S.Space s.old s.new }
@@ -80,6 +81,7 @@ impl Walk {
         ensures spots { (LacksCursor goal self.old.shown → ⊥) → spots.new ≡ set spots.old (owner - 1) (spot_number self.new.cursor.place) }
         ensures others { SameOthers owner locks.old locks.new }
         ensures stands { OnErr result (self.new ≡ self.old) }
+        ensures stopped { OnErr result (IsTrue S.tells → S.size s.old < 2 ^ 32 → StepStops (S.form s.old) (S.image s.old) (S.image s.new) self.old.cursor) }
         ensures idle { dead_of self.old.cursor.place self.old.cursor.stage ≡ None → Looked S.Space s.old s.new }
         ensures size { S.size s.new ≡ S.size s.old }
         ensures wrote { Wrote S.Space s.old s.new }
@@ -116,6 +118,7 @@ pub fn close_turn<S: Space>(
     ensures spots { spots.new ≡ set spots.old (owner - 1) (spot_number walk.new.cursor.place) }
     ensures others { SameOthers owner locks.old locks.new }
     ensures stands { OnErr result ((walk.new ≡ walk.old) × (live.new ≡ live.old) × (held.new ≡ held.old)) }
+    ensures stopped { OnErr result (IsTrue S.tells → S.size s.old < 2 ^ 32 → StepStops (S.form s.old) (S.image s.old) (S.image s.new) walk.old.cursor) }
     ensures idle { dead_of walk.old.cursor.place walk.old.cursor.stage ≡ None → Looked S.Space s.old s.new }
     ensures size { S.size s.new ≡ S.size s.old }
     ensures wrote { Wrote S.Space s.old s.new }

@@ -9,13 +9,14 @@ use Rattle.tdb_space.specs.Accepted.{AcceptWith}
 use Rattle.tdb_walk.specs.Purging.{IsDeadRecord, IsPrepared}
 use Rattle.tdb_walk.specs.declared.standing.Standing.TheVariants.{On}
 use Rattle.tdb_walk.specs.ByteLocks.{CanHold}
-use Rattle.tdb_walk.specs.Cursors.{At}
+use Rattle.tdb_walk.specs.Cursors.{At, dead_of}
 use Rattle.tdb_walk.specs.Cursors.Came.{barred}
 use Rattle.tdb_walk.specs.Cursors.WentTo.{held_up}
 use Rattle.tdb_walk.specs.Cursors.StepMade.{waits}
-use Rattle.tdb_walk.proofs.Making.{purge_made, made_then}
+use Rattle.tdb_walk.proofs.Making.{purge_made, made_then, purge_broken, broken_then, broken_nothing}
 use Rattle.tdb_walk.proofs.Went.{arrived_went, moved_others}
 use Rattle.tdb_walk.proofs.Views.{moved}
+use Rattle.tdb_space.proofs.Results.{on_err}
 use Rattle.tdb_walk.proofs.cursor.Cursor.come_to.Goals as goal
 
 -- two replies of turns that are the same are the same
@@ -75,3 +76,26 @@ returns-in-Ok-take_byte-clause-made g c told small hands A knows =
     c.dead.result c.in-Ok-prepare_purge.dead c.dead.ensures (p.readied.form ∙ looked.form) (p.readied.image ∙ looked.image) (ap (λ (x : At). x.stage) c.leave.ensures.stands) (λ e. (let k : Reply.Pair c.in-Ok.pair.1 c.in-Ok.ensures.key.0 ≡ Reply.Memory = sym c.in-Ok.ensures.key.1 ∙ reply_same c.in-Ok.pair.0 e in cc k))
     (moved (λ x i. AcceptWith x i hands → IsDeadRecord x i c.dead.result → IsPrepared x i c.dead.result c.in-Ok-prepare_purge.dead) f (g.S.Space.form c.pair_and_key.new.s) img (g.S.Space.image c.pair_and_key.new.s) looked.form looked.image (p.found told hands))
     (λ dead B ready. c.in_ok-purge_prepared-in-Ok-take_byte.ensures.purged told (omega (arith, small, p.readied.size, looked.size)) hands B dead ready) A knows
+
+pub returns-in-Err-Io-clause-stopped : goal.returns-in-Err-Io-clause-stopped
+returns-in-Err-Io-clause-stopped g c told small hands A knows =
+    broken_nothing (g.S.Space.form c.args.s.now) (g.S.Space.image c.args.s.now) (g.S.Space.image c.pair_and_key.new.s) (dead_of c.args.self.now.place c.args.self.now.stage) hands A c.pair_and_key.ensures.looked.image
+
+pub returns-then-not-is_filed-clause-stopped : goal.returns-then-not-is_filed-clause-stopped
+returns-then-not-is_filed-clause-stopped g c =
+    let looked = c.in-Ok.ensures.looked in
+    broken_then (IsTrue g.S.Space.tells) (g.S.Space.size c.args.s.now < 2 ^ 32) (g.S.Space.size c.pair_and_key.new.s < 2 ^ 32) c.depart.result (g.S.Space.form c.args.s.now) (g.S.Space.form c.pair_and_key.new.s) (g.S.Space.image c.args.s.now) (g.S.Space.image c.pair_and_key.new.s)
+    (g.S.Space.image c.depart.new.s) c.args.self.now looked.form looked.image (λ small. omega (arith, small, looked.size)) c.depart.ensures.stopped
+
+pub returns-in-Err-Io-prepare_purge-clause-stopped : goal.returns-in-Err-Io-prepare_purge-clause-stopped
+returns-in-Err-Io-prepare_purge-clause-stopped g c told small hands A knows =
+    broken_nothing (g.S.Space.form c.args.s.now) (g.S.Space.image c.args.s.now) (g.S.Space.image c.prepare_purge.new.s) (dead_of c.args.self.now.place c.args.self.now.stage) hands A (c.prepare_purge.ensures.readied.image ∙ c.in-Ok.ensures.looked.image)
+
+pub returns-in_err-purge_prepared-in-Ok-take_byte-clause-stopped : goal.returns-in_err-purge_prepared-in-Ok-take_byte-clause-stopped
+returns-in_err-purge_prepared-in-Ok-take_byte-clause-stopped g c = on_err c.from_residual.result (λ told small hands A knows.
+    (let p = c.in-Ok-prepare_purge.ensures in
+    let looked = c.in-Ok.ensures.looked in
+    purge_broken (g.S.Space.form c.args.s.now) (g.S.Space.form c.prepare_purge.new.s) (g.S.Space.image c.args.s.now) (g.S.Space.image c.prepare_purge.new.s) (g.S.Space.image c.purge_prepared.new.s) hands c.args.self.now
+    c.dead.result c.in-Ok-prepare_purge.dead c.dead.ensures (p.readied.form ∙ looked.form) (p.readied.image ∙ looked.image)
+    (moved (λ x i. AcceptWith x i hands → IsDeadRecord x i c.dead.result → IsPrepared x i c.dead.result c.in-Ok-prepare_purge.dead) (g.S.Space.form c.args.s.now) (g.S.Space.form c.pair_and_key.new.s) (g.S.Space.image c.args.s.now) (g.S.Space.image c.pair_and_key.new.s) looked.form looked.image (p.found told hands))
+    (λ dead B ready. c.in_err-purge_prepared-in-Ok-take_byte.ensures.stopped told (omega (arith, small, p.readied.size, looked.size)) hands B dead ready) A knows))

@@ -11,7 +11,7 @@ use Rattle.tdb_walk.proofs.Views.{moved}
 use Rattle.tdb_walk.proofs.Turns.{came_then, header_met, ok_more}
 use Rattle.tdb_walk.proofs.Coming.{met_filed}
 use Rattle.tdb_walk.proofs.Went.{went_then, stopped_went, ended_went}
-use Rattle.tdb_walk.proofs.Making.{made_then, stopped_led}
+use Rattle.tdb_walk.proofs.Making.{made_then, broken_then, broken_nothing, stopped_led}
 use Rattle.tdb_walk.proofs.cursor.Cursor.move_turn.Goals as goal
 
 pub returns-in-Ok-Met-clause-moved : goal.returns-in-Ok-Met-clause-moved
@@ -77,3 +77,25 @@ returns-in-Ok-End-clause-made g c =
     let looked = c.in-Ok-End.ensures.looked in
     made_then (IsTrue g.S.Space.tells) (g.S.Space.size c.args.s.now < 2 ^ 32) (g.S.Space.size c.move_on.new.s < 2 ^ 32) c.depart-in-Ok-End.result (g.S.Space.form c.args.s.now) (g.S.Space.form c.move_on.new.s) (g.S.Space.image c.args.s.now) (g.S.Space.image c.move_on.new.s)
     (g.S.Space.image c.depart-in-Ok-End.new.s) c.args.self.now c.depart-in-Ok-End.new.self looked.form looked.image (λ small. omega (arith, small, looked.size)) c.depart-in-Ok-End.ensures.made
+
+pub returns-in-Ok-Met-clause-stopped : goal.returns-in-Ok-Met-clause-stopped
+returns-in-Ok-Met-clause-stopped g c =
+    let looked = c.in-Ok-Met.ensures.looked in
+    broken_then (IsTrue g.S.Space.tells) (g.S.Space.size c.args.s.now < 2 ^ 32) (g.S.Space.size c.move_on.new.s < 2 ^ 32) c.come_to.result (g.S.Space.form c.args.s.now) (g.S.Space.form c.move_on.new.s) (g.S.Space.image c.args.s.now) (g.S.Space.image c.move_on.new.s)
+    (g.S.Space.image c.come_to.new.s) c.args.self.now looked.form looked.image (λ small. omega (arith, small, looked.size)) c.come_to.ensures.stopped
+
+pub returns-in-Ok-Blocked-clause-stopped : goal.returns-in-Ok-Blocked-clause-stopped
+returns-in-Ok-Blocked-clause-stopped g c =
+    let looked = c.in-Ok-Blocked.ensures.looked in
+    broken_then (IsTrue g.S.Space.tells) (g.S.Space.size c.args.s.now < 2 ^ 32) (g.S.Space.size c.move_on.new.s < 2 ^ 32) c.depart.result (g.S.Space.form c.args.s.now) (g.S.Space.form c.move_on.new.s) (g.S.Space.image c.args.s.now) (g.S.Space.image c.move_on.new.s)
+    (g.S.Space.image c.depart.new.s) c.args.self.now looked.form looked.image (λ small. omega (arith, small, looked.size)) c.depart.ensures.stopped
+
+pub returns-in-Ok-End-clause-stopped : goal.returns-in-Ok-End-clause-stopped
+returns-in-Ok-End-clause-stopped g c =
+    let looked = c.in-Ok-End.ensures.looked in
+    broken_then (IsTrue g.S.Space.tells) (g.S.Space.size c.args.s.now < 2 ^ 32) (g.S.Space.size c.move_on.new.s < 2 ^ 32) c.depart-in-Ok-End.result (g.S.Space.form c.args.s.now) (g.S.Space.form c.move_on.new.s) (g.S.Space.image c.args.s.now) (g.S.Space.image c.move_on.new.s)
+    (g.S.Space.image c.depart-in-Ok-End.new.s) c.args.self.now looked.form looked.image (λ small. omega (arith, small, looked.size)) c.depart-in-Ok-End.ensures.stopped
+
+pub returns-in-Err-Io-clause-stopped : goal.returns-in-Err-Io-clause-stopped
+returns-in-Err-Io-clause-stopped g c told small hands A knows =
+    broken_nothing (g.S.Space.form c.args.s.now) (g.S.Space.image c.args.s.now) (g.S.Space.image c.move_on.new.s) (dead_of c.args.self.now.place c.args.self.now.stage) hands A c.move_on.ensures.looked.image

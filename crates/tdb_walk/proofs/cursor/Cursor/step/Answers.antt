@@ -9,8 +9,9 @@ use Rattle.tdb_walk.specs.NextLive.{StandsIn}
 use Rattle.tdb_walk.specs.Cursors.{At, Knows, LeaveLed, MoveLed, StepMade, WentTo, act_of, dead_of, spared_of}
 use Rattle.tdb_walk.proofs.Views.{moved}
 use Rattle.tdb_walk.proofs.Turns.{ok_two, ok_three}
-use Rattle.tdb_walk.proofs.Making.{made_then, moved_knows}
+use Rattle.tdb_walk.proofs.Making.{made_then, broken_then, broken_nothing, moved_knows}
 use Rattle.tdb_walk.proofs.Stepping.{from_stands, taken_by, left_knows}
+use Rattle.tdb_space.proofs.Results.{on_err}
 use Rattle.tdb_walk.proofs.cursor.Cursor.step.Goals as goal
 
 pub returns-in-Move-clause-taken : goal.returns-in-Move-clause-taken
@@ -76,3 +77,19 @@ returns-in-End-clause-knows g c =
     (moved (λ x i. AcceptWith x i hands → Knows x i at.place at.stage → StepMade x i b hands at later turn) f (g.S.Space.form c.has_to_purge.new.s) img (g.S.Space.image c.has_to_purge.new.s)
     looked.form looked.image (made told (omega (arith, small, looked.size)) hands) A knows))
     c.depart.ensures.led c.depart.ensures.made
+
+pub returns-in_err-due-clause-stopped : goal.returns-in_err-due-clause-stopped
+returns-in_err-due-clause-stopped g c = on_err c.from_residual.result (λ told small hands A knows.
+    broken_nothing (g.S.Space.form c.args.s.now) (g.S.Space.image c.args.s.now) (g.S.Space.image c.has_to_purge.new.s) (dead_of c.args.self.now.place c.args.self.now.stage) hands A c.has_to_purge.ensures.looked.image)
+
+pub returns-in-Move-clause-stopped : goal.returns-in-Move-clause-stopped
+returns-in-Move-clause-stopped g c =
+    let looked = c.in_ok-due.ensures.looked in
+    broken_then (IsTrue g.S.Space.tells) (g.S.Space.size c.args.s.now < 2 ^ 32) (g.S.Space.size c.has_to_purge.new.s < 2 ^ 32) c.move_turn.result (g.S.Space.form c.args.s.now) (g.S.Space.form c.has_to_purge.new.s) (g.S.Space.image c.args.s.now) (g.S.Space.image c.has_to_purge.new.s)
+    (g.S.Space.image c.move_turn.new.s) c.args.self.now looked.form looked.image (λ small. omega (arith, small, looked.size)) c.move_turn.ensures.stopped
+
+pub returns-in-End-clause-stopped : goal.returns-in-End-clause-stopped
+returns-in-End-clause-stopped g c =
+    let looked = c.in_ok-due.ensures.looked in
+    broken_then (IsTrue g.S.Space.tells) (g.S.Space.size c.args.s.now < 2 ^ 32) (g.S.Space.size c.has_to_purge.new.s < 2 ^ 32) c.depart.result (g.S.Space.form c.args.s.now) (g.S.Space.form c.has_to_purge.new.s) (g.S.Space.image c.args.s.now) (g.S.Space.image c.has_to_purge.new.s)
+    (g.S.Space.image c.depart.new.s) c.args.self.now looked.form looked.image (λ small. omega (arith, small, looked.size)) c.depart.ensures.stopped

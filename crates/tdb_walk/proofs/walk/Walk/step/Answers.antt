@@ -3,6 +3,7 @@ use Rattle.std.proofs.Common.{◌≡◌, sym, ◌∙◌, ap, subst}
 use Rattle.tdb_walk.specs.Cursors.{At, StepMade}
 use Rattle.tdb_walk.specs.declared.walk.Walk.{Walk}
 use Rattle.tdb_walk.proofs.walk.Walk.step.Goals.{in-Done, in_default}
+use Rattle.tdb_space.proofs.Results.{on_err}
 use Rattle.tdb_walk.proofs.walk.Walk.step.Goals as goal
 
 pub returns-clause-made : goal.returns-clause-made
@@ -14,3 +15,7 @@ returns-clause-made g c told small hands A knows =
       | in-Done w ↦ at _ (ap (λ (v : Walk). v.cursor) w.self-is ∙ w.keep.ensures.cursor)
       | in_default w ↦ at _ (ap (λ (v : Walk). v.cursor) w.self-is)
     ]
+
+-- the step failed
+pub returns-in_err-turn-clause-stopped : goal.returns-in_err-turn-clause-stopped
+returns-in_err-turn-clause-stopped g c = on_err c.from_residual.result c.in_err-turn.ensures.stopped

@@ -1,7 +1,7 @@
 -- The step is one among the records of the other entries, and the opener's own entry is that of its place then.
-use Rattle.std.proofs.Common.{◌≡◌, ◌-◌, ℕ, IfOk, Result, Ok, Err, set, ◌∙◌, ap, subst}
+use Rattle.std.proofs.Common.{◌-◌, IfOk, Result, Ok, Err, set, ◌∙◌, ap, subst}
 use Rattle.std.proofs.lemmas.List.{set-set}
-use Rattle.tdb_walk.specs.Spots.{spot_number, Stepped}
+use Rattle.tdb_walk.specs.Spots.{Stepped}
 use Rattle.tdb_walk.proofs.walk.Walk.step_among.Goals as goal
 
 by_three : {T E : Type 0} (r : Result T E) (P Q R W : T → Type 0) → ((x : T) → P x → Q x → R x → W x) → IfOk r P → IfOk r Q → IfOk r R → IfOk r W
