@@ -2,14 +2,10 @@
 use Rattle.std.proofs.Common.{◌≡◌, ℕ, ◌<◌, arith, inl, inr, Bool, true, false, List, [], ◌∷◌, ◌++◌, length, Option, None, Some, refl, sym, ◌∙◌, ap, subst}
 use Rattle.std.specs.Map.{update}
 use Rattle.std.proofs.lemmas.Map.{update-update, update_same}
-use Rattle.std.proofs.lemmas.Bool.{cases_lt}
-use Rattle.tdb_words.specs.Word.{word}
 use Rattle.tdb_words.proofs.Words.{word_agrees}
-use Rattle.tdb_space.specs.Form.{Form, chain_head}
+use Rattle.tdb_space.specs.Form.{Form}
 use Rattle.tdb_space.specs.Pairs.{map_of, home, same_key}
-use Rattle.tdb_space.specs.Extents.{HandPair, times, extents, hand_extents}
-use Rattle.tdb_space.proofs.Exchange.Kept.{times_within}
-use Rattle.tdb_space.proofs.Extents.Counts.{once_out}
+use Rattle.tdb_space.specs.Extents.{HandPair, AllHandOk}
 use Rattle.tdb_space.specs.Accepted.{AcceptWith}
 use Rattle.tdb_space.specs.Stays.{ChainsStay}
 use Rattle.tdb_space.proofs.Pairs.Maps.{home_below, same_key-refl}
@@ -17,6 +13,7 @@ use Rattle.tdb_space.proofs.Stays.Changes.{changes_none, changes_weaker, changes
 use Rattle.tdb_chain.specs.declared.place.Place.{Place}
 use Rattle.tdb_chain.specs.Place.{IsPlace, HoldsKey}
 use Rattle.tdb_chain.specs.Changed.{KeySet, ChainChanged, OldOrWord, hand_at, word_before}
+use Rattle.tdb_chain.proofs.Changed.{header_stays}
 use Rattle.tdb_chain.proofs.Unlinked.{word_only}
 use Rattle.tdb_chain.proofs.PlaceStays.{found_stays}
 use Rattle.tdb_free.specs.Growth.{CanBeTaken, RefusedRightly, NoRoom, SaysLengths}
@@ -29,7 +26,7 @@ use Rattle.tdb_locks.specs.declared.turn.Reply.{Reply}
 use Rattle.tdb_steps.specs.declared.stage.Stage.{Stage}
 use Rattle.tdb_steps.specs.declared.stage.Next.{Next}
 use Rattle.tdb_words.specs.declared.record.TheConstants.{USED}
-use Rattle.tdb_space.specs.Record.{IsChained, key_at, data_at}
+use Rattle.tdb_space.specs.Record.{key_at, data_at}
 use Rattle.tdb_steps.specs.declared.flag.Flag.{Flag}
 use Rattle.tdb_steps.specs.declared.flag.Flag.TheVariants as Flags
 use Rattle.tdb_steps.specs.Asked.{Asked, appends, joined, deleted, deletes, stored, stores}
@@ -60,19 +57,9 @@ moved P f g a v same_form same_image holds = subst (P f) same_image (subst (λ x
 pub number_same : (f : Form) (a b : List ℕ) → ((i : ℕ) → i < 168 → slice_index b i ≡ slice_index a i) → number_of f b ≡ number_of f a
 number_same f a b same = word_agrees f.order b a 48 (λ i from to. same i (omega (arith, to)))
 
--- so it does where a chain changes, whose records stand behind the header, and hands that do
-chain_low : (f : Form) (a : List ℕ) (hands : List HandPair) (k i : ℕ) → AcceptWith f a hands → k < f.chains → i < 168 → times (extents f.order a (chain_of f a k)) i ≡ 0
-chain_low f a hands k i A low under = elim (cases_lt 0 (times (extents f.order a (chain_of f a k)) i)) [
-  | inl some ↦ let within = times_within f IsChained a (word f.order a (chain_head k)) (chain_of f a k) i (A.chains k low) (omega (arith, some)) in absurd (omega (arith, within.0, under))
-  | inr none ↦ omega (arith, none)
-]
-
-pub chain_number : (f : Form) (a b : List ℕ) (k : ℕ) (offs : List ℕ) (own before after : List HandPair) → AcceptWith f a before → k < f.chains → ((i : ℕ) → i < 168 → times (hand_extents own) i ≡ 0) → ChainChanged f a b k offs own before after → number_of f b ≡ number_of f a
-chain_number f a b k offs own before after A low clear C =
-    number_same f a b (λ i under. C.others i (inl (omega (arith, under))) (let x = chain_low f a before k i A low under in let y = clear i under in omega (arith, x, y)))
-
-pub hand_high : (f : Form) (a : List ℕ) (h : HandPair) (others : List HandPair) → AcceptWith f a (h ∷ others) → (i : ℕ) → i < 168 → times (hand_extents (h ∷ [])) i ≡ 0
-hand_high f a h others A i under = let none = once_out (h.0, 24 + h.1) i (inl (let above = A.held.0.above in omega (arith, above, under))) in omega (arith, none)
+-- so it does where a chain and hands change
+pub chain_number : (f : Form) (a b : List ℕ) (k : ℕ) (offs : List ℕ) (own before after : List HandPair) → AcceptWith f a before → k < f.chains → AllHandOk f a own → ChainChanged f a b k offs own before after → number_of f b ≡ number_of f a
+chain_number f a b k offs own before after A low held C = number_same f a b (header_stays f a b k offs own before after low A held C)
 
 -- a turn that leaves the map isn't the one that makes the change, and one that makes it sets the key's value
 map_left : (x y : Bool) (f : Form) (a b key : List ℕ) (asked : Asked) → y ≡ x → ((other : List ℕ) → map_of f b other ≡ map_of f a other) → MapBy x y f a b key asked
@@ -151,7 +138,7 @@ unlinked_made f g a v b key p h others same_form same_image clause is_hand writt
     let K = moved (λ x img. (hands : List HandPair) → AcceptWith x img hands → IsPlace x img p → p.rec.magic ≡ USED → KeySet x img b (key_at x.order img p.off) None (without p.off (chain_of x img (home x (key_at x.order img p.off)))) [] hands (h ∷ hands)) f g a v same_form same_image clause others A H.place H.used in
     let L = subst (λ q. KeySet f a b q None (without p.off (chain_of f a (home f q))) [] others (h ∷ others)) H.has_key K in
     set_made f a b key deletes (Stage.Listed (Some p)) (Next.Step (Stage.Changed h)) others None (without p.off (chain_of f a (home f key))) [] others L
-    (chain_number f a b (home f key) (without p.off (chain_of f a (home f key))) [] others (h ∷ others) A (home_below f key A.some) (λ i under. refl) L.changed) tt refl refl refl tt tt
+    (chain_number f a b (home f key) (without p.off (chain_of f a (home f key))) [] others (h ∷ others) A (home_below f key A.some) tt L.changed) tt refl refl refl tt tt
     (taken_walks f a b key (Stage.Listed (Some p)) h others (h ∷ others) p A H L refl is_hand
     (word_only f.order a b p.before p.rec.next (word_before (Some p)) (λ i none. omega (arith, none)) (moved (λ x img. OldOrWord x.order img p.before p.rec.next b) f g a v same_form same_image written)))
 
@@ -170,7 +157,7 @@ module _ (f g : Form) (a m b key value : List ℕ) (p : Place) (h : HandPair) (f
     only = changes_then f a m b (λ k. (k ≡ home f key) × HoldsChain (Stage.Taken (Some p) h)) (changes_weaker f a m (λ k. k ≡ home f key) (λ k. (k ≡ home f key) × HoldsChain (Stage.Taken (Some p) h)) (λ k at_home. (at_home, tt)) K.changed.only) T.only;
     map = λ q. T.map q ∙ ap (λ o. cond (same_key key q) (Some value) o) (K.map q) ∙ update-update same_key (map_of f a) key None (Some value) q;
     says = tt;
-    number = T.number ∙ chain_number f a m (home f key) (chain_of f a (home f key)) [] (h ∷ others) (h ∷ others) A (home_below f key A.some) (λ i under. refl) K.changed;
+    number = T.number ∙ chain_number f a m (home f key) (chain_of f a (home f key)) [] (h ∷ others) (h ∷ others) A (home_below f key A.some) tt K.changed;
     walks = walks_then f a m b key (Stage.Taken (Some p) h) (Stage.Taken None h) (Next.Step Stage.Ending) (Next.Step Stage.Ending) (h ∷ others) None K refl refl refl refl (λ stands spares. spares)
         (in_place_walks f a m key (Stage.Taken (Some p) h) (Next.Step Stage.Ending) (h ∷ others) p None A H K refl refl written) T.walks;
   }
@@ -197,7 +184,7 @@ pub in_place_made : (f g : Form) (a v b key : List ℕ) (asked : Asked) (value :
 in_place_made f g a v b key asked value p others same_form same_image clause left A known written =
     let K = moved (λ x img. (hands : List HandPair) (k : List ℕ) → AcceptWith x img hands → HoldsKey x img k p → KeySet x img b k value (chain_of x img (home x k)) [] hands hands) f g a v same_form same_image clause others key A known.found in
     set_made f a b key asked Stage.Chained (Next.Done Reply.Ok) others value (chain_of f a (home f key)) [] others K
-    (chain_number f a b (home f key) (chain_of f a (home f key)) [] others others A (home_below f key A.some) (λ i under. refl) K.changed) tt refl refl left tt (inr (sym known.granted))
+    (chain_number f a b (home f key) (chain_of f a (home f key)) [] others others A (home_below f key A.some) tt K.changed) tt refl refl left tt (inr (sym known.granted))
     (in_place_walks f a b key Stage.Chained (Next.Done Reply.Ok) others p value A known.found K refl refl (subst (λ img. ChangesInPlace img b p) same_image written))
 
 -- a store of a key that is there is granted but for an Insert, and a delete always

@@ -5,7 +5,7 @@ use Rattle.tdb_space.specs.Form.{Form}
 use Rattle.tdb_space.specs.Pairs.{map_of}
 use Rattle.tdb_space.specs.Extents.{HandPair}
 use Rattle.tdb_space.specs.Accepted.{AcceptWith}
-use Rattle.tdb_space.specs.Stays.{ChangesOnly}
+use Rattle.tdb_space.specs.Stays.{ChangesOnly, ChainsStay}
 use Rattle.tdb_space.proofs.Stays.Changes.{changes_none, changes_weaker, changes_then}
 use Rattle.tdb_locks.specs.HeldLocks.{HeldLocks}
 use Rattle.tdb_locks.specs.declared.piece.Piece.{Piece}
@@ -35,7 +35,8 @@ use Rattle.tdb_steps.specs.PlainCommands.{key_of, asked_of, command_of, reply_of
 use Rattle.tdb_steps.specs.LockRows.{strength_of, locks_in, rows_of, reader_rows, writer_rows, wipe_rows, row_at}
 use Rattle.tdb_steps.specs.Holdings.{KeptBeside, HoldsBefore}
 use Rattle.tdb_steps.specs.Order.{InOrder, LookOrder, StoreOrder, DeleteOrder, WipeOrder, LookAfter, StoreAfter, DeleteAfter, WipeAfter, IsAfter}
-use Rattle.tdb_steps.specs.Machines.{Doing, begun, MapTurned, Counted, WantsRecord, DoingKnows, CommandMakes, CommandRightly, IsOn, MachineTurned}
+use Rattle.tdb_steps.specs.Machines.{Doing, begun, MapTurned, Counted, WantsRecord, DoingKnows, CommandMakes, CommandStops, CommandRightly, IsOn, MachineTurned, MachineStopped}
+use Rattle.tdb_steps.specs.Machines.MachineStopped.{in_call, at_number}
 use Rattle.tdb_steps.specs.LockTurns.{LockLed, ActRightly}
 use Rattle.tdb_locks.specs.declared.turn.Turn.{Turn}
 use Rattle.tdb_locks.specs.declared.turn.Turn.TheVariants as Turns
@@ -391,6 +392,28 @@ module _ (f : Form) (a m : List ℕ) (command : Plain) (chain : ℕ) (seqnum : B
       subst (λ x. From b x e (Law.Turn.Ends (reply_of r))) (sym before)
       (subst (λ y. From b (record { command = command; chain = chain; seqnum = seqnum; stage = stage; whole = was }) y (Law.Turn.Ends (reply_of r))) (sym now)
       (λ is may A K. let T = turned_so (Next.Done r) on is may A K in ended_so f a m b command chain seqnum n stage was whole others r T (counted others T.accepted)))
+
+  -- the turn was done, and the number couldn't be raised
+  pub act_halted : (b : List ℕ) (r : Reply) → led ≡ Next.Done r → ((hands : List HandPair) → AcceptWith f m hands → ChainsStay f m b hands)
+      → IsAfter d.command d.stage n → MayBeOut d.stage others → AcceptWith f a (hands_in d.stage ++ others) → DoingKnows f a d → MachineStopped f a b d n others
+  act_halted b r on stays =
+      subst (λ x. IsAfter x.command x.stage n → MayBeOut x.stage others → AcceptWith f a (hands_in x.stage ++ others) → DoingKnows f a x → MachineStopped f a b x n others) (sym before)
+      (λ is may A K.
+      (let T = turned_so (Next.Done r) on is may A K in
+      let C = stays others T.accepted in
+      at_number (reply_of r) (record {
+        accepted = C.accepted;
+        only = changes_then f a m b (λ k. IsOn f command k × (1 ≤ n)) T.only (changes_weaker f m b (λ k. ⊥) (λ k. IsOn f command k × (1 ≤ n)) (λ k never. absurd never) C.only);
+        map = λ p M. moved_map f m b (command_of command) n p (Law.Turn.Ends (reply_of r)) C.map (T.map p M);
+      })))
+
+-- the turn of a command failed, whose stage was taken out for it
+pub act_broke : (f : Form) (a b : List ℕ) (command : Plain) (chain : ℕ) (seqnum : Bool) (n : ℕ) (stage taken : Stage) (was : Option (List ℕ)) (d : Doing) (others : List HandPair)
+    → d ≡ record { command = command; chain = chain; seqnum = seqnum; stage = stage; whole = was } → taken ≡ stage → CommandStops f a b command taken
+    → AcceptWith f a (hands_in d.stage ++ others) → DoingKnows f a d → MachineStopped f a b d n others
+act_broke f a b command chain seqnum n stage taken was d others before out stops =
+    subst (λ x. AcceptWith f a (hands_in x.stage ++ others) → DoingKnows f a x → MachineStopped f a b x n others) (sym before)
+    (λ A K. in_call (subst (CommandStops f a b command) out stops others A K.found))
 
 -- the stages from which a turn takes a lock
 pub data LockStage (stage : Stage) : Type 0 where

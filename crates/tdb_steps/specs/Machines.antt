@@ -1,5 +1,5 @@
 -- A machine: what a command has between two of its turns, what it needs and knows, and what a turn makes of an image.
-use Rattle.std.specs.Prelude.{ℕ, ◌+◌, ◌^◌, ◌≡◌, ◌≤◌, ◌<◌, ◌⊎◌, List, ◌++◌, length, Bool, false, true, ◌&&◌, Option, None, IfSome, unwrap_or}
+use Rattle.std.specs.Prelude.{ℕ, ◌+◌, ◌^◌, ◌≡◌, ◌≤◌, ◌<◌, ◌⊎◌, List, [], ◌++◌, length, Bool, false, true, ◌&&◌, Option, None, IfSome, unwrap_or}
 use Rattle.tdb_chain.specs.declared.place.Place.{Place}
 use Rattle.tdb_space.specs.Form.{Form}
 use Rattle.tdb_space.specs.Pairs.{home, map_of}
@@ -23,8 +23,9 @@ use Rattle.tdb_steps.specs.declared.plain.Plain.TheVariants.{Fetch, Has, Store, 
 use Rattle.tdb_steps.specs.declared.stage.Stage.{Stage}
 use Rattle.tdb_steps.specs.declared.stage.Stage.TheVariants.{Begun, Looked, Listed, Ending}
 use Rattle.tdb_steps.specs.declared.stage.Next.{Next}
-use Rattle.tdb_steps.specs.Turns.{number_of, Makes, AppendMakes, WipeMakes, StoresRightly, AppendsRightly, DeletesRightly, WipesRightly, LooksRightly}
+use Rattle.tdb_steps.specs.Turns.{number_of, Makes, TurnStopped, AppendMakes, WipeMakes, StoresRightly, AppendsRightly, DeletesRightly, WipesRightly, LooksRightly}
 use Rattle.tdb_steps.specs.Asked.{joined}
+use Rattle.tdb_steps.specs.Wiped.{WipeStopped}
 use Rattle.tdb_steps.specs.Stages.{hands_in, is_done, is_changed, IsIdle, Knows, IsTooShort, IsJoined, OfLook, OfStore, OfDelete, OfWipe}
 use Rattle.tdb_steps.specs.PlainCommands.{IsKeyed, key_of, asked_of, command_of, IsMapOf}
 use Rattle.tdb_steps.specs.Order.{IsAfter}
@@ -104,6 +105,17 @@ abbrev pub CommandMakes : Form → List ℕ → List ℕ → Plain → Option (L
 CommandMakes f a b (Append key value) was now old next = AppendMakes f a b key value was now old next
 CommandMakes f a b Wipe was now old next = WipeMakes f a b old next
 CommandMakes f a b command was now old next = Makes f a b (key_of command) (asked_of command) old next
+
+-- What a turn of a command from a stage leaves where it fails: a wipe what one leaves that found no hand out, and any
+-- other command what a turn on its key leaves.
+abbrev pub CommandStopped : Form → List ℕ → List ℕ → Plain → Stage → Type 0
+CommandStopped f a b Wipe stage = AcceptWith f a [] → WipeStopped f a b
+CommandStopped f a b command stage = TurnStopped f a b (key_of command) (hands_in stage)
+
+-- so it is for whatever other hands are out
+abbrev pub CommandStops : Form → List ℕ → List ℕ → Plain → Stage → Type 0
+CommandStops f a b command stage =
+    (others : List HandPair) → AcceptWith f a (hands_in stage ++ others) → Knows f a (key_of command) (asked_of command) stage → CommandStopped f a b command stage
 
 -- How a turn of a command goes on: a store or an append updates in place exactly where the value fits, and takes a
 -- record as the free list gives it, or replies Full exactly where it has none that is long enough and the file can't
@@ -187,6 +199,19 @@ pub record MachineTurned (f : Form) (a b : List ℕ) (d e : Doing) (n : ℕ) (tu
   pub map : (m : Map) → IsMapOf f a m → MapTurned f b (command_of d.command) n m turn
   pub number : number_of f b ≡ number_after d.seqnum (command_of d.command) turn (number_of f a)
   pub walks : IsKeyed d.command → (stands : ℕ → Bool) → StandInChains f a stands → Spares stands e turn → WalksKept f a b (key_of d.command) stands (is_changed d.stage) (is_changed_then d e turn)
+
+-- A turn of a machine made of image a what it makes, with this reply to come; and then the disk failed where the
+-- sequence number was to be raised. Image b is as the turn leaves it, but for the number perhaps.
+pub record TurnUncounted (f : Form) (a b : List ℕ) (d : Doing) (n : ℕ) (reply : Reply) (others : List HandPair) : Type 0 where
+  pub accepted : AcceptWith f b others
+  pub only : ChangesOnly f a b (λ k. IsOn f d.command k × (1 ≤ n))
+  pub map : (m : Map) → IsMapOf f a m → MapTurned f b (command_of d.command) n m (Ends reply)
+
+-- How a turn of a machine failed that has had n steps, where other hands are out: in a call of its command, or after
+-- it, where the sequence number was to be raised.
+pub data MachineStopped (f : Form) (a b : List ℕ) (d : Doing) (n : ℕ) (others : List HandPair) : Type 0 where
+  in_call : CommandStopped f a b d.command d.stage → MachineStopped f a b d n others
+  at_number : (reply : Reply) → TurnUncounted f a b d n reply others → MachineStopped f a b d n others
 
 -- what a turn leaves of the machine: after a step it has had one more, blocked it is as it was, and at its end it is
 -- before its first turn

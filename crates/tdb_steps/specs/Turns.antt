@@ -1,14 +1,14 @@
 -- What a turn of a command makes of the image.
-use Rattle.std.specs.Prelude.{◌≡◌, ℕ, ◌+◌, ◌≤◌, ◌<◌, ◌⊎◌, Bool, true, false, List, [], ◌∷◌, ◌++◌, length, Option, None, Some, Contains}
+use Rattle.std.specs.Prelude.{◌≡◌, ℕ, ◌+◌, ◌≤◌, ◌<◌, ◌⊎◌, Bool, true, false, List, [], ◌∷◌, ◌++◌, length, slice_index, Option, None, Some, Contains}
 use Rattle.std.specs.Map.{update}
 use Rattle.tdb_words.specs.Word.{word}
 use Rattle.tdb_words.specs.Header.{sequence_at}
-use Rattle.tdb_space.specs.Form.{Form}
+use Rattle.tdb_space.specs.Form.{Form, chain_head, free_head}
 use Rattle.tdb_space.specs.Pairs.{map_of, home, same_key}
-use Rattle.tdb_space.specs.Extents.{HandPair}
-use Rattle.tdb_space.specs.Accepted.{AcceptWith}
+use Rattle.tdb_space.specs.Extents.{HandPair, once, times, extents, hand_extents}
+use Rattle.tdb_space.specs.Accepted.{AcceptWith, IsFiled}
 use Rattle.tdb_space.specs.Stays.{ChangesOnly, ChainStays}
-use Rattle.tdb_space.specs.Chain.{free_of}
+use Rattle.tdb_space.specs.Chain.{chain_of, free_of}
 use Rattle.tdb_space.specs.NewRecord.{rec_len_for}
 use Rattle.tdb_free.specs.FreeList.{GivenBack}
 use Rattle.tdb_free.specs.Growth.{TakenBy, NoRoom}
@@ -66,6 +66,26 @@ pub record TurnMade (f : Form) (a b key : List ℕ) (asked : Asked) (old : Stage
 abbrev pub Makes : Form → List ℕ → List ℕ → List ℕ → Asked → Stage → Next → Type 0
 Makes f a b key asked old next =
     (others : List HandPair) → AcceptWith f a (hands_in old ++ others) → Knows f a key asked old → TurnMade f a b key asked old next others
+
+-- how often a byte is held by what a turn on a key may write to, of a command that has these hands: the heads of the
+-- key's chain and of the free list, the records of both, and the hands
+abbrev pub of_turn : Form → List ℕ → List ℕ → List HandPair → ℕ → ℕ
+of_turn f a key own i =
+    once (chain_head (home f key), 4) i + once (free_head, 4) i + times (extents f.order a (chain_of f a (home f key))) i + times (extents f.order a (free_of f a)) i + times (hand_extents own) i
+
+-- A turn on a key, of a command that has these hands, failed, and led from image a to image b. At most bytes of these
+-- changed: the heads of the key's chain and of the free list, the records of both, and the hands. So each byte of the
+-- header, of the undo area, of all other chains and of others' hands is as it was. Each chain head of b leads to whole
+-- records alone, filed by their keys' hashes, or to none; and no other key lost its value, or has another.
+pub record TurnStopped (f : Form) (a b key : List ℕ) (own : List HandPair) : Type 0 where
+  pub bytes : (i : ℕ) → i < length a → of_turn f a key own i ≡ 0 → slice_index b i ≡ slice_index a i
+  pub only : ChangesOnly f a b (λ k. k ≡ home f key)
+  pub filed : IsFiled f b
+  pub map : (other : List ℕ) → same_key key other ≡ false → map_of f b other ≡ map_of f a other
+
+-- what a turn from this stage leaves where it fails, whatever the command asks for and whatever other hands are out
+abbrev pub Stops : Form → List ℕ → List ℕ → List ℕ → Stage → Type 0
+Stops f a b key old = (asked : Asked) (others : List HandPair) → AcceptWith f a (hands_in old ++ others) → Knows f a key asked old → TurnStopped f a b key (hands_in old)
 
 -- A turn that takes a record of so many bytes behind its header leads to a record as the free list gives it, or as it
 -- gives it after the file has grown up to the limit. It ends with Full only where neither can be, and says how long the

@@ -1,13 +1,13 @@
 // A turn of a command without its locks.
 
-ghost use Rattle.std.specs.Prelude.{◌≡◌, ◌≤◌, ◌<◌, ◌^◌, true, false, IsTrue, IfOk};
+ghost use Rattle.std.specs.Prelude.{◌≡◌, ◌≤◌, ◌<◌, ◌^◌, true, false, IsTrue, IfOk, OnErr};
 ghost use Rattle.tdb_disk.specs.Count.{HasCause};
 ghost use Rattle.tdb_space.specs.Frame.{Looked, Wrote};
 ghost use Rattle.tdb_steps.specs.Stages.{Leads, IsIdle, CanCount};
 ghost use Rattle.tdb_law.specs.MapCommands.{map_changes};
 ghost use Rattle.tdb_steps.specs.PlainCommands.{command_of};
 ghost use Rattle.tdb_steps.specs.Order.{InOrder};
-ghost use Rattle.tdb_steps.specs.Machines.{IsShort, IsShortWhole, IsFit, CommandMakes, CommandRightly};
+ghost use Rattle.tdb_steps.specs.Machines.{IsShort, IsShortWhole, IsFit, CommandMakes, CommandStops, CommandRightly};
 
 use crate::append_turns::append_turn;
 use crate::deleting::delete_turn;
@@ -42,6 +42,7 @@ pub(crate) fn act<S: Space>(
         → CommandRightly (S.form s.old) (S.image s.old) (S.image s.new) command.now whole.old limit stood_on.now stage next) }
     ensures order { IfOk result (InOrder command.now stage) }
     ensures fit { IfOk result (Leads (λ then. IsFit command.now whole.new then (S.size s.new) (S.spare s.new))) }
+    ensures stopped { OnErr result (IsTrue S.tells → S.size s.old < 2 ^ 32 → CommandStops (S.form s.old) (S.image s.old) (S.image s.new) command.now stage) }
     ensures whole { IsShortWhole whole.new }
     ensures room { IfOk result (λ next. map_changes (command_of command.now) ≡ true → CanCount (S.spare s.new) next) }
     ensures idle { IsIdle stage → Looked S.Space s.old s.new }

@@ -1,12 +1,12 @@
 // The turns of an append.
 
-ghost use Rattle.std.specs.Prelude.{◌≡◌, ◌≤◌, ◌<◌, ◌+◌, ◌^◌, IsTrue, IfOk, length, unwrap_or};
+ghost use Rattle.std.specs.Prelude.{◌≡◌, ◌≤◌, ◌<◌, ◌+◌, ◌^◌, IsTrue, IfOk, OnErr, length, unwrap_or};
 ghost use Rattle.tdb_disk.specs.Count.{HasCause};
 ghost use Rattle.tdb_space.specs.Frame.{Looked, Wrote};
 ghost use Rattle.tdb_space.specs.NewRecord.{rec_len_for};
 ghost use Rattle.tdb_steps.specs.Asked.{stores};
 ghost use Rattle.tdb_steps.specs.Stages.{OfStore, Leads, IsIdle, CanCount};
-ghost use Rattle.tdb_steps.specs.Turns.{Makes, AppendMakes, StoresRightly, AppendsRightly};
+ghost use Rattle.tdb_steps.specs.Turns.{Makes, Stops, AppendMakes, StoresRightly, AppendsRightly};
 ghost use Rattle.tdb_steps.specs.Order.{StoreOrder};
 ghost use Rattle.tdb_steps.specs.declared.flag.Flag.TheVariants as Flags;
 ghost use Rattle.tdb_steps.specs.declared.stage.Stage.TheVariants as Stage;
@@ -42,6 +42,7 @@ fn store_joined<S: Space>(
     ensures order { IfOk result (StoreOrder stage) }
     ensures room { IfOk result (CanCount (S.spare s.new)) }
     ensures leads { IfOk result (Leads (λ then. OfStore (length key.now + length (unwrap_or whole.now more.now)) then (S.size s.new) (S.spare s.new))) }
+    ensures stopped { OnErr result (IsTrue S.tells → S.size s.old < 2 ^ 32 → Stops (S.form s.old) (S.image s.old) (S.image s.new) key.now stage) }
     ensures idle { IsIdle stage → Looked S.Space s.old s.new }
     ensures longer { S.size s.old ≤ S.size s.new }
     ensures within { S.size s.old ≤ limit → S.size s.new ≤ limit }
@@ -95,6 +96,7 @@ pub fn append_turn<S: Space>(
     ensures leads { IfOk result (Leads (λ then. OfStore (length key.now + length (unwrap_or whole.new more.now)) then (S.size s.new) (S.spare s.new))) }
     ensures short { length (unwrap_or whole.new more.now) < 2 ^ 33 }
     ensures keeps { (stage ≡ Stage.Chained → ⊥) → whole.new ≡ whole.old }
+    ensures stopped { OnErr result (IsTrue S.tells → S.size s.old < 2 ^ 32 → Stops (S.form s.old) (S.image s.old) (S.image s.new) key.now stage) }
     ensures idle { IsIdle stage → Looked S.Space s.old s.new }
     ensures longer { S.size s.old ≤ S.size s.new }
     ensures within { S.size s.old ≤ limit → S.size s.new ≤ limit }

@@ -1,6 +1,6 @@
 // The turn of an append that looks its key up.
 
-ghost use Rattle.std.specs.Prelude.{◌≡◌, ◌≤◌, ◌<◌, ◌+◌, ◌^◌, ◌⊎◌, ℕ, List, IsTrue, IfOk, IfSome, Some, length, unwrap_or};
+ghost use Rattle.std.specs.Prelude.{◌≡◌, ◌≤◌, ◌<◌, ◌+◌, ◌^◌, ◌⊎◌, ℕ, List, [], IsTrue, IfOk, IfSome, OnErr, Some, length, unwrap_or};
 ghost use Rattle.tdb_disk.specs.Count.{HasCause};
 ghost use Rattle.tdb_space.specs.Frame.{Wrote, Looked};
 ghost use Rattle.tdb_space.specs.Extents.{HandPair};
@@ -10,7 +10,7 @@ ghost use Rattle.tdb_words.specs.declared.record.TheConstants.{USED};
 ghost use Rattle.tdb_chain.specs.Place.{StandsWithin, HoldsKey};
 ghost use Rattle.tdb_steps.specs.Asked.{appends, joined};
 ghost use Rattle.tdb_steps.specs.Stages.{OfStore, Leads, CanCount};
-ghost use Rattle.tdb_steps.specs.Turns.{Makes, TurnMade, UpdatesRightly, Finds};
+ghost use Rattle.tdb_steps.specs.Turns.{Makes, TurnMade, TurnStopped, UpdatesRightly, Finds};
 ghost use Rattle.tdb_steps.specs.Order.{LooksOn};
 ghost use Rattle.tdb_steps.specs.declared.stage.Stage.TheVariants as Stage;
 ghost use Rattle.tdb_steps.specs.declared.stage.Next.TheVariants as Next;
@@ -74,6 +74,7 @@ pub fn look_to_append<S: Space>(
     ensures room { IfOk result (CanCount (S.spare s.new)) }
     ensures short { length (unwrap_or whole.new more.now) < 2 ^ 33 }
     ensures leads { (n : ℕ) → IfOk result (Leads (λ stage. OfStore n stage (S.size s.new) (S.spare s.new))) }
+    ensures stopped { OnErr result (IsTrue S.tells → (others : List HandPair) → AcceptWith (S.form s.old) (S.image s.old) others → TurnStopped (S.form s.old) (S.image s.old) (S.image s.new) key.now []) }
     ensures size { S.size s.new ≡ S.size s.old }
     ensures wrote { Wrote S.Space s.old s.new }
     ensures cause { HasCause (S.faults s.old) (S.faults s.new) result }

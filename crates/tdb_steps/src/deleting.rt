@@ -1,11 +1,11 @@
 // The turns of a delete.
 
-ghost use Rattle.std.specs.Prelude.{◌≡◌, ◌≤◌, ◌<◌, ◌^◌, IsTrue, IfOk, length};
+ghost use Rattle.std.specs.Prelude.{◌≡◌, ◌≤◌, ◌<◌, ◌^◌, IsTrue, IfOk, OnErr, length};
 ghost use Rattle.tdb_disk.specs.Count.{HasCause};
 ghost use Rattle.tdb_space.specs.Frame.{Looked, Wrote};
 ghost use Rattle.tdb_steps.specs.Asked.{deletes};
 ghost use Rattle.tdb_steps.specs.Stages.{OfDelete, Leads, IsIdle, CanCount};
-ghost use Rattle.tdb_steps.specs.Turns.{Makes, DeletesRightly};
+ghost use Rattle.tdb_steps.specs.Turns.{Makes, Stops, DeletesRightly};
 ghost use Rattle.tdb_steps.specs.Order.{DeleteOrder};
 
 use crate::giving::give_back;
@@ -35,6 +35,7 @@ pub fn delete_turn<S: Space>(
     ensures order { IfOk result (DeleteOrder stage) }
     ensures room { IfOk result (CanCount (S.spare s.new)) }
     ensures leads { IfOk result (Leads (λ then. OfDelete then (S.size s.new) (S.spare s.new))) }
+    ensures stopped { OnErr result (IsTrue S.tells → S.size s.old < 2 ^ 32 → Stops (S.form s.old) (S.image s.old) (S.image s.new) key.now stage) }
     ensures idle { IsIdle stage → Looked S.Space s.old s.new }
     ensures size { S.size s.new ≡ S.size s.old }
     ensures wrote { Wrote S.Space s.old s.new }

@@ -1,11 +1,13 @@
 // The turn that gives the old record of a key to the free list.
 
-ghost use Rattle.std.specs.Prelude.{◌≡◌, ◌≤◌, ◌<◌, ◌^◌, ℕ, List, IsTrue, IfOk, OnOk};
+ghost use Rattle.std.specs.Prelude.{◌≡◌, ◌≤◌, ◌<◌, ◌^◌, ℕ, List, [], ◌∷◌, IsTrue, IfOk, OnOk, OnErr};
 ghost use Rattle.tdb_disk.specs.Count.{HasCause};
 ghost use Rattle.tdb_space.specs.Frame.{Wrote};
+ghost use Rattle.tdb_space.specs.Extents.{HandPair};
+ghost use Rattle.tdb_space.specs.Accepted.{AcceptWith};
 ghost use Rattle.tdb_space.specs.Spare.{RoomForAll};
 ghost use Rattle.tdb_steps.specs.Asked.{Asked};
-ghost use Rattle.tdb_steps.specs.Turns.{Makes, GivesRightly};
+ghost use Rattle.tdb_steps.specs.Turns.{Makes, TurnStopped, GivesRightly};
 ghost use Rattle.tdb_steps.specs.declared.stage.Stage.TheVariants as Stage;
 ghost use Rattle.tdb_steps.specs.declared.stage.Next.TheVariants as Next;
 
@@ -21,6 +23,8 @@ pub(crate) fn give_back<S: Space>(s: &mut S, hand: Hand) -> Result<Next, Io>
     ensures rightly { IfOk result (λ next. IsTrue S.tells → S.size s.old < 2 ^ 32 → GivesRightly (S.form s.old) (S.image s.old) (S.image s.new) hand next) }
     ensures room { OnOk result (RoomForAll (S.spare s.new) 1 4) }
     ensures ending { IfOk result (λ next. next ≡ Next.Step Stage.Ending) }
+    ensures stopped { OnErr result (IsTrue S.tells → S.size s.old < 2 ^ 32 → (key : List ℕ) (others : List HandPair) → AcceptWith (S.form s.old) (S.image s.old) (hand ∷ others)
+        → TurnStopped (S.form s.old) (S.image s.old) (S.image s.new) key (hand ∷ [])) }
     ensures size { S.size s.new ≡ S.size s.old }
     ensures wrote { Wrote S.Space s.old s.new }
     ensures cause { HasCause (S.faults s.old) (S.faults s.new) result }

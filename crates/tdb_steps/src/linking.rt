@@ -1,15 +1,15 @@
 // The turn of a store that links the new record and takes the old one out.
 
-ghost use Rattle.std.specs.Prelude.{◌≡◌, ◌≤◌, ◌<◌, ◌+◌, ◌/◌, ◌^◌, ℕ, List, ◌∷◌, IsTrue, IfOk, IfSome, Some, length};
+ghost use Rattle.std.specs.Prelude.{◌≡◌, ◌≤◌, ◌<◌, ◌+◌, ◌/◌, ◌^◌, ℕ, List, [], ◌∷◌, IsTrue, IfOk, IfSome, OnErr, Some, length};
 ghost use Rattle.tdb_disk.specs.Count.{HasCause};
 ghost use Rattle.tdb_space.specs.Frame.{Wrote};
 ghost use Rattle.tdb_space.specs.Spare.{RoomForAll};
 ghost use Rattle.tdb_space.specs.Extents.{HandPair};
 ghost use Rattle.tdb_space.specs.Accepted.{AcceptWith};
-ghost use Rattle.tdb_chain.specs.Place.{StandsWithin, HoldsKey};
+ghost use Rattle.tdb_chain.specs.Place.{StandsWithin, HoldsKey, IsFound};
 ghost use Rattle.tdb_steps.specs.Asked.{stores};
 ghost use Rattle.tdb_steps.specs.Stages.{CanLink, OfStore, Leads};
-ghost use Rattle.tdb_steps.specs.Turns.{Makes, LinkedOver, LinksRightly};
+ghost use Rattle.tdb_steps.specs.Turns.{Makes, TurnStopped, LinkedOver, LinksRightly};
 ghost use Rattle.tdb_steps.specs.Order.{LinksOn};
 ghost use Rattle.tdb_steps.specs.declared.flag.Flag.{Flag};
 ghost use Rattle.tdb_steps.specs.declared.stage.Stage.TheVariants as Stage;
@@ -38,6 +38,8 @@ fn link_over<S: Space>(
         → LinkedOver (S.form s.old) (S.image s.old) hand over next) }
     ensures order { IfOk result LinksOn }
     ensures leads { IfOk result (Leads (λ stage. OfStore (length key.now + length value.now) stage (S.size s.new) (S.spare s.new))) }
+    ensures stopped { OnErr result (IsTrue S.tells → S.size s.old < 2 ^ 32 → (others : List HandPair) → AcceptWith (S.form s.old) (S.image s.old) (hand ∷ others)
+        → IsFound (S.form s.old) (S.image s.old) key.now over → TurnStopped (S.form s.old) (S.image s.old) (S.image s.new) key.now (hand ∷ [])) }
     ensures size { S.size s.new ≡ S.size s.old }
     ensures wrote { Wrote S.Space s.old s.new }
     ensures cause { HasCause (S.faults s.old) (S.faults s.new) result }
@@ -65,6 +67,8 @@ fn link_beside<S: Space>(
         → HoldsKey (S.form s.old) (S.image s.old) key old → next ≡ Next.Step Stage.Ending) }
     ensures order { IfOk result LinksOn }
     ensures leads { IfOk result (Leads (λ stage. OfStore (length key.now + length value.now) stage (S.size s.new) (S.spare s.new))) }
+    ensures stopped { OnErr result (IsTrue S.tells → S.size s.old < 2 ^ 32 → (others : List HandPair) → AcceptWith (S.form s.old) (S.image s.old) (hand ∷ others)
+        → HoldsKey (S.form s.old) (S.image s.old) key.now old → TurnStopped (S.form s.old) (S.image s.old) (S.image s.new) key.now (hand ∷ [])) }
     ensures size { S.size s.new ≡ S.size s.old }
     ensures wrote { Wrote S.Space s.old s.new }
     ensures cause { HasCause (S.faults s.old) (S.faults s.new) result }
@@ -94,6 +98,8 @@ pub(crate) fn link_new<S: Space>(
     ensures rightly { IfOk result (λ next. IsTrue S.tells → S.size s.old < 2 ^ 32 → LinksRightly (S.form s.old) (S.image s.old) hand stood_on.now found next) }
     ensures order { IfOk result LinksOn }
     ensures leads { IfOk result (Leads (λ stage. OfStore (length key.now + length value.now) stage (S.size s.new) (S.spare s.new))) }
+    ensures stopped { OnErr result (IsTrue S.tells → S.size s.old < 2 ^ 32 → (others : List HandPair) → AcceptWith (S.form s.old) (S.image s.old) (hand ∷ others)
+        → IsFound (S.form s.old) (S.image s.old) key.now found → TurnStopped (S.form s.old) (S.image s.old) (S.image s.new) key.now (hand ∷ [])) }
     ensures size { S.size s.new ≡ S.size s.old }
     ensures wrote { Wrote S.Space s.old s.new }
     ensures cause { HasCause (S.faults s.old) (S.faults s.new) result }

@@ -1,14 +1,14 @@
 // The turns of changing commands that look a key up.
 
-ghost use Rattle.std.specs.Prelude.{◌≡◌, ◌≤◌, ◌<◌, ◌+◌, ◌++◌, ◌^◌, ℕ, List, IsTrue, IfOk, IfSome, Some, length};
+ghost use Rattle.std.specs.Prelude.{◌≡◌, ◌≤◌, ◌<◌, ◌+◌, ◌++◌, ◌^◌, ℕ, List, [], IsTrue, IfOk, IfSome, OnErr, Some, length};
 ghost use Rattle.tdb_disk.specs.Count.{HasCause};
 ghost use Rattle.tdb_space.specs.Frame.{Wrote};
 ghost use Rattle.tdb_space.specs.Extents.{HandPair};
 ghost use Rattle.tdb_space.specs.Accepted.{AcceptWith};
-ghost use Rattle.tdb_chain.specs.Place.{StandsWithin};
+ghost use Rattle.tdb_chain.specs.Place.{StandsWithin, HoldsKey};
 ghost use Rattle.tdb_steps.specs.Asked.{stores, deletes};
 ghost use Rattle.tdb_steps.specs.Stages.{IsKnown, OfStore, OfDelete, Leads, IsEnd, CanCount};
-ghost use Rattle.tdb_steps.specs.Turns.{Makes, TurnMade, UpdatesRightly, MarksRightly, Finds};
+ghost use Rattle.tdb_steps.specs.Turns.{Makes, TurnMade, TurnStopped, UpdatesRightly, MarksRightly, Finds};
 ghost use Rattle.tdb_steps.specs.Order.{LooksOn};
 ghost use Rattle.tdb_steps.specs.declared.flag.Flag.{Flag};
 ghost use Rattle.tdb_steps.specs.declared.stage.Stage.TheVariants as Stage;
@@ -30,6 +30,8 @@ pub(crate) fn update_found<S: Space>(s: &mut S, place: Place, value: &[u8]) -> R
     ensures order { IfOk result LooksOn }
     ensures room { IfOk result (CanCount (S.spare s.new)) }
     ensures leads { (n : ℕ) → IfOk result (Leads (λ stage. OfStore n stage (S.size s.new) (S.spare s.new))) }
+    ensures stopped { OnErr result (IsTrue S.tells → (key : List ℕ) (others : List HandPair) → AcceptWith (S.form s.old) (S.image s.old) others → HoldsKey (S.form s.old) (S.image s.old) key place
+        → TurnStopped (S.form s.old) (S.image s.old) (S.image s.new) key []) }
     ensures size { S.size s.new ≡ S.size s.old }
     ensures wrote { Wrote S.Space s.old s.new }
     ensures cause { HasCause (S.faults s.old) (S.faults s.new) result }
@@ -55,6 +57,8 @@ fn mark_found<S: Space>(s: &mut S, place: Place) -> Result<Next, Io>
     ensures done { IfOk result IsEnd }
     ensures order { IfOk result LooksOn }
     ensures room { IfOk result (CanCount (S.spare s.new)) }
+    ensures stopped { OnErr result (IsTrue S.tells → (key : List ℕ) (others : List HandPair) → AcceptWith (S.form s.old) (S.image s.old) others → HoldsKey (S.form s.old) (S.image s.old) key place
+        → TurnStopped (S.form s.old) (S.image s.old) (S.image s.new) key []) }
     ensures size { S.size s.new ≡ S.size s.old }
     ensures wrote { Wrote S.Space s.old s.new }
     ensures cause { HasCause (S.faults s.old) (S.faults s.new) result }
@@ -83,6 +87,7 @@ pub(crate) fn look_to_store<S: Space>(
     ensures order { IfOk result LooksOn }
     ensures room { IfOk result (CanCount (S.spare s.new)) }
     ensures leads { (n : ℕ) → IfOk result (Leads (λ stage. OfStore n stage (S.size s.new) (S.spare s.new))) }
+    ensures stopped { OnErr result (IsTrue S.tells → (others : List HandPair) → AcceptWith (S.form s.old) (S.image s.old) others → TurnStopped (S.form s.old) (S.image s.old) (S.image s.new) key.now []) }
     ensures size { S.size s.new ≡ S.size s.old }
     ensures wrote { Wrote S.Space s.old s.new }
     ensures cause { HasCause (S.faults s.old) (S.faults s.new) result }
@@ -110,6 +115,7 @@ pub(crate) fn look_to_delete<S: Space>(s: &mut S, key: &[u8], stood_on: &Spots) 
     ensures order { IfOk result LooksOn }
     ensures room { IfOk result (CanCount (S.spare s.new)) }
     ensures leads { IfOk result (Leads (λ stage. OfDelete stage (S.size s.new) (S.spare s.new))) }
+    ensures stopped { OnErr result (IsTrue S.tells → (others : List HandPair) → AcceptWith (S.form s.old) (S.image s.old) others → TurnStopped (S.form s.old) (S.image s.old) (S.image s.new) key.now []) }
     ensures size { S.size s.new ≡ S.size s.old }
     ensures wrote { Wrote S.Space s.old s.new }
     ensures cause { HasCause (S.faults s.old) (S.faults s.new) result }

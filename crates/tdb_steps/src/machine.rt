@@ -13,7 +13,7 @@ ghost use Rattle.tdb_steps.specs.Order.{IsAfter};
 ghost use Rattle.tdb_steps.specs.PlainCommands.{key_of, command_of, turn_of};
 ghost use Rattle.tdb_steps.specs.LockRows.{rows_of, row_at, locks_in, AllStandAlone, AreLetGo};
 ghost use Rattle.tdb_steps.specs.Holdings.{HoldsBefore, LocksTurned};
-ghost use Rattle.tdb_steps.specs.Machines.{begun, IsShort, Fits, is_counted, IsQuiet, DoingKnows, MachineTurned, MapRow, Leaves};
+ghost use Rattle.tdb_steps.specs.Machines.{begun, IsShort, Fits, is_counted, IsQuiet, DoingKnows, MachineTurned, MachineStopped, MapRow, Leaves};
 ghost use Rattle.tdb_steps.specs.LockTurns.{LockLed, ActLed, ActRightly};
 
 use crate::acting::act;
@@ -175,6 +175,9 @@ impl Machine {
         ensures leaves { IfOk result (λ turn. (n : ℕ) → IsAfter self.old.command self.old.stage n → Leaves self.old self.new n (turn_of turn)) }
         ensures fits { IfOk result (λ turn. Fits self.new (S.size s.new) (S.spare s.new)) }
         ensures given_up { OnErr result (self.new ≡ begun self.old.command self.old.chain self.old.seqnum) }
+        ensures stopped { OnErr result (IsTrue S.tells → S.size s.old < 2 ^ 32 → (n : ℕ) (others : List HandPair) → IsAfter self.old.command self.old.stage n
+            → MayBeOut self.old.stage others → AcceptWith (S.form s.old) (S.image s.old) (hands_in self.old.stage ++ others) → DoingKnows (S.form s.old) (S.image s.old) self.old
+            → MachineStopped (S.form s.old) (S.image s.old) (S.image s.new) self.old n others) }
         ensures idle { IsQuiet self.old → Looked S.Space s.old s.new }
         ensures looked { map_changes (command_of self.old.command) ≡ false → Looked S.Space s.old s.new }
         ensures longer { S.size s.old ≤ S.size s.new }
@@ -250,6 +253,9 @@ impl Machine {
             → HoldsBefore held.now kept owner n locks.old (rows_of self.old.command self.old.chain)
             → LocksTurned (locks_in (rows_of self.old.command self.old.chain)) kept owner n locks.old locks.new (turn_of turn)) }
         ensures fits { IfOk result (λ turn. Fits self.new (S.size s.new) (S.spare s.new)) }
+        ensures stopped { OnErr result (IsTrue S.tells → S.size s.old < 2 ^ 32 → (n : ℕ) (others : List HandPair) → IsAfter self.old.command self.old.stage n
+            → MayBeOut self.old.stage others → AcceptWith (S.form s.old) (S.image s.old) (hands_in self.old.stage ++ others) → DoingKnows (S.form s.old) (S.image s.old) self.old
+            → MachineStopped (S.form s.old) (S.image s.old) (S.image s.new) self.old n others) }
         ensures idle { IsQuiet self.old → Looked S.Space s.old s.new }
         ensures looked { map_changes (command_of self.old.command) ≡ false → Looked S.Space s.old s.new }
         ensures err { OnErr result (locks.new ≡ locks.old) }

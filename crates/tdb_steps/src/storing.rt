@@ -1,12 +1,12 @@
 // The turns of a store.
 
-ghost use Rattle.std.specs.Prelude.{◌≤◌, ◌<◌, ◌+◌, ◌^◌, IsTrue, IfOk, length};
+ghost use Rattle.std.specs.Prelude.{◌≤◌, ◌<◌, ◌+◌, ◌^◌, IsTrue, IfOk, OnErr, length};
 ghost use Rattle.tdb_disk.specs.Count.{HasCause};
 ghost use Rattle.tdb_space.specs.Frame.{Looked, Wrote};
 ghost use Rattle.tdb_space.specs.NewRecord.{rec_len_for};
 ghost use Rattle.tdb_steps.specs.Asked.{stores};
 ghost use Rattle.tdb_steps.specs.Stages.{OfStore, Leads, IsIdle, CanCount};
-ghost use Rattle.tdb_steps.specs.Turns.{Makes, StoresRightly};
+ghost use Rattle.tdb_steps.specs.Turns.{Makes, Stops, StoresRightly};
 ghost use Rattle.tdb_steps.specs.Order.{StoreOrder};
 
 use crate::flag::Flag;
@@ -48,6 +48,7 @@ pub fn store_turn<S: Space>(
     ensures order { IfOk result (StoreOrder stage) }
     ensures room { IfOk result (CanCount (S.spare s.new)) }
     ensures leads { IfOk result (Leads (λ then. OfStore (length key.now + length value.now) then (S.size s.new) (S.spare s.new))) }
+    ensures stopped { OnErr result (IsTrue S.tells → S.size s.old < 2 ^ 32 → Stops (S.form s.old) (S.image s.old) (S.image s.new) key.now stage) }
     ensures idle { IsIdle stage → Looked S.Space s.old s.new }
     ensures longer { S.size s.old ≤ S.size s.new }
     ensures within { S.size s.old ≤ limit → S.size s.new ≤ limit }

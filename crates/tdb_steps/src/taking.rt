@@ -1,13 +1,15 @@
 // The turn that takes a record from the free list for the value of a key.
 
-ghost use Rattle.std.specs.Prelude.{◌≡◌, ◌≤◌, ◌<◌, ◌+◌, ◌^◌, ℕ, List, IsTrue, IfOk, IfSome};
+ghost use Rattle.std.specs.Prelude.{◌≡◌, ◌≤◌, ◌<◌, ◌+◌, ◌^◌, ℕ, List, [], IsTrue, IfOk, IfSome, OnErr};
 ghost use Rattle.tdb_disk.specs.Count.{HasCause};
 ghost use Rattle.tdb_space.specs.Frame.{Wrote};
+ghost use Rattle.tdb_space.specs.Extents.{HandPair};
+ghost use Rattle.tdb_space.specs.Accepted.{AcceptWith};
 ghost use Rattle.tdb_space.specs.NewRecord.{rec_len_for};
 ghost use Rattle.tdb_chain.specs.Place.{StandsWithin};
 ghost use Rattle.tdb_steps.specs.Asked.{Asked};
 ghost use Rattle.tdb_steps.specs.Stages.{OfStore, Leads};
-ghost use Rattle.tdb_steps.specs.Turns.{Makes, TakesRightly};
+ghost use Rattle.tdb_steps.specs.Turns.{Makes, TurnStopped, TakesRightly};
 ghost use Rattle.tdb_steps.specs.Order.{TakesOn};
 ghost use Rattle.tdb_steps.specs.declared.stage.Stage.TheVariants as Stage;
 
@@ -38,6 +40,8 @@ pub(crate) fn take_new<S: Space>(
         → TakesRightly (S.form s.old) (S.image s.old) (S.image s.new) (rec_len_for key_len value_len) limit found next) }
     ensures order { IfOk result TakesOn }
     ensures leads { IfOk result (Leads (λ stage. OfStore (key_len + value_len) stage (S.size s.new) (S.spare s.new))) }
+    ensures stopped { OnErr result (IsTrue S.tells → S.size s.old < 2 ^ 32 → (key : List ℕ) (others : List HandPair) → AcceptWith (S.form s.old) (S.image s.old) others
+        → TurnStopped (S.form s.old) (S.image s.old) (S.image s.new) key []) }
     ensures longer { S.size s.old ≤ S.size s.new }
     ensures within { S.size s.old ≤ limit → S.size s.new ≤ limit }
     ensures wrote { Wrote S.Space s.old s.new }

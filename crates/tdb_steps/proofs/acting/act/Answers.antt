@@ -1,11 +1,16 @@
 -- A turn of a command is that of its kind.
-use Rattle.std.proofs.Common.{◌<◌, length, sym, subst}
-use Rattle.std.specs.Prelude.{◌^◌, IsTrue, IfOk}
-use Rattle.std.proofs.lemmas.Result.{IfOk-weaker}
+use Rattle.std.proofs.Common.{◌<◌, List, ◌++◌, length, sym, subst}
+use Rattle.std.specs.Prelude.{◌^◌, IsTrue, IfOk, OnErr}
+use Rattle.std.proofs.lemmas.Result.{IfOk-weaker, on_err_weaker}
 use Rattle.tdb_space.specs.NewRecord.{rec_len_for}
-use Rattle.tdb_steps.specs.Asked.{fetches, asks, stores, deletes}
-use Rattle.tdb_steps.specs.Turns.{Makes, AppendMakes, StoresRightly, AppendsRightly, DeletesRightly, LooksRightly}
-use Rattle.tdb_steps.specs.Machines.{CommandMakes, CommandRightly}
+use Rattle.tdb_steps.specs.Asked.{fetches, asks, stores, appends, deletes}
+use Rattle.tdb_steps.specs.Turns.{Makes, TurnStopped, AppendMakes, StoresRightly, AppendsRightly, DeletesRightly, LooksRightly}
+use Rattle.tdb_steps.specs.Machines.{CommandMakes, CommandStops, CommandRightly}
+use Rattle.tdb_space.specs.Extents.{HandPair}
+use Rattle.tdb_space.specs.Accepted.{AcceptWith}
+use Rattle.tdb_space.proofs.Results.{on_err}
+use Rattle.tdb_steps.specs.Stages.{hands_in, Knows}
+use Rattle.tdb_steps.proofs.Stopped.{stopped_nothing}
 use Rattle.tdb_steps.proofs.acting.act.Goals as goal
 
 pub returns-in-Fetch-clause-made : goal.returns-in-Fetch-clause-made
@@ -118,3 +123,61 @@ pub returns-in-Wipe-clause-rightly : goal.returns-in-Wipe-clause-rightly
 returns-in-Wipe-clause-rightly g c =
     subst (λ x. IfOk c.wipe_turn.result (λ next. IsTrue g.S.Space.tells → g.S.Space.size c.args.s.now < 2 ^ 32 → CommandRightly (g.S.Space.form c.args.s.now) (g.S.Space.image c.args.s.now) (g.S.Space.image c.wipe_turn.new.s) x c.args.whole.now c.args.limit c.args.stood_on.now c.args.stage next))
     (sym c.in-Wipe.is) c.wipe_turn.ensures.rightly
+
+-- and where it fails, it leaves what those of its kind do
+pub returns-in-Fetch-clause-stopped : goal.returns-in-Fetch-clause-stopped
+returns-in-Fetch-clause-stopped g c =
+    let f = g.S.Space.form c.args.s.now in
+    let a = g.S.Space.image c.args.s.now in
+    let b = g.S.Space.image c.fetch_turn.new.s in
+    let stage = c.args.stage in
+    subst (λ x. OnErr c.fetch_turn.result (IsTrue g.S.Space.tells → g.S.Space.size c.args.s.now < 2 ^ 32 → CommandStops f a b x stage)) (sym c.in-Fetch.is)
+    (on_err c.fetch_turn.result (λ told small others A known. stopped_nothing f a b c.in-Fetch.key (hands_in stage) (hands_in stage ++ others) A c.fetch_turn.ensures.looked.image))
+
+pub returns-in-Has-clause-stopped : goal.returns-in-Has-clause-stopped
+returns-in-Has-clause-stopped g c =
+    let f = g.S.Space.form c.args.s.now in
+    let a = g.S.Space.image c.args.s.now in
+    let b = g.S.Space.image c.has_turn.new.s in
+    let stage = c.args.stage in
+    subst (λ x. OnErr c.has_turn.result (IsTrue g.S.Space.tells → g.S.Space.size c.args.s.now < 2 ^ 32 → CommandStops f a b x stage)) (sym c.in-Has.is)
+    (on_err c.has_turn.result (λ told small others A known. stopped_nothing f a b c.in-Has.key (hands_in stage) (hands_in stage ++ others) A c.has_turn.ensures.looked.image))
+
+pub returns-in-Store-clause-stopped : goal.returns-in-Store-clause-stopped
+returns-in-Store-clause-stopped g c =
+    let f = g.S.Space.form c.args.s.now in
+    let a = g.S.Space.image c.args.s.now in
+    let b = g.S.Space.image c.store_turn.new.s in
+    let stage = c.args.stage in
+    subst (λ x. OnErr c.store_turn.result (IsTrue g.S.Space.tells → g.S.Space.size c.args.s.now < 2 ^ 32 → CommandStops f a b x stage)) (sym c.in-Store.is)
+    (subst (λ k. OnErr c.store_turn.result (IsTrue g.S.Space.tells → g.S.Space.size c.args.s.now < 2 ^ 32 → (others : List HandPair) → AcceptWith f a (hands_in stage ++ others) → Knows f a k (stores c.in-Store.flag c.in-Store.value) stage → TurnStopped f a b k (hands_in stage))) c.as_slice-in-Store.ensures
+    (on_err_weaker c.store_turn.result (λ stopped told small others A known. stopped told small (stores c.in-Store.flag c.in-Store.value) others A known) c.store_turn.ensures.stopped))
+
+pub returns-in-Append-clause-stopped : goal.returns-in-Append-clause-stopped
+returns-in-Append-clause-stopped g c =
+    let f = g.S.Space.form c.args.s.now in
+    let a = g.S.Space.image c.args.s.now in
+    let b = g.S.Space.image c.append_turn.new.s in
+    let stage = c.args.stage in
+    subst (λ x. OnErr c.append_turn.result (IsTrue g.S.Space.tells → g.S.Space.size c.args.s.now < 2 ^ 32 → CommandStops f a b x stage)) (sym c.in-Append.is)
+    (subst (λ k. OnErr c.append_turn.result (IsTrue g.S.Space.tells → g.S.Space.size c.args.s.now < 2 ^ 32 → (others : List HandPair) → AcceptWith f a (hands_in stage ++ others) → Knows f a k (appends c.in-Append.value) stage → TurnStopped f a b k (hands_in stage))) c.as_slice-in-Append.ensures
+    (on_err_weaker c.append_turn.result (λ stopped told small others A known. stopped told small (appends c.in-Append.value) others A known) c.append_turn.ensures.stopped))
+
+pub returns-in-Delete-clause-stopped : goal.returns-in-Delete-clause-stopped
+returns-in-Delete-clause-stopped g c =
+    let f = g.S.Space.form c.args.s.now in
+    let a = g.S.Space.image c.args.s.now in
+    let b = g.S.Space.image c.delete_turn.new.s in
+    let stage = c.args.stage in
+    subst (λ x. OnErr c.delete_turn.result (IsTrue g.S.Space.tells → g.S.Space.size c.args.s.now < 2 ^ 32 → CommandStops f a b x stage)) (sym c.in-Delete.is)
+    (subst (λ k. OnErr c.delete_turn.result (IsTrue g.S.Space.tells → g.S.Space.size c.args.s.now < 2 ^ 32 → (others : List HandPair) → AcceptWith f a (hands_in stage ++ others) → Knows f a k deletes stage → TurnStopped f a b k (hands_in stage))) c.as_slice-in-Delete.ensures
+    (on_err_weaker c.delete_turn.result (λ stopped told small others A known. stopped told small deletes others A known) c.delete_turn.ensures.stopped))
+
+pub returns-in-Wipe-clause-stopped : goal.returns-in-Wipe-clause-stopped
+returns-in-Wipe-clause-stopped g c =
+    let f = g.S.Space.form c.args.s.now in
+    let a = g.S.Space.image c.args.s.now in
+    let b = g.S.Space.image c.wipe_turn.new.s in
+    let stage = c.args.stage in
+    subst (λ x. OnErr c.wipe_turn.result (IsTrue g.S.Space.tells → g.S.Space.size c.args.s.now < 2 ^ 32 → CommandStops f a b x stage)) (sym c.in-Wipe.is)
+    (on_err_weaker c.wipe_turn.result (λ stopped told small others A known. stopped told) c.wipe_turn.ensures.stopped)

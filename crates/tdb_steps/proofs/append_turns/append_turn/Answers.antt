@@ -1,13 +1,13 @@
 -- The look of an append, and its other turns.
 use Rattle.std.proofs.Common.{◌≡◌, ◌<◌, ◌⊎◌, List, length, refl, sym, subst}
-use Rattle.std.specs.Prelude.{◌^◌, IsTrue, IfOk, unwrap_or}
-use Rattle.std.proofs.lemmas.Result.{IfOk-weaker}
+use Rattle.std.specs.Prelude.{◌^◌, IsTrue, IfOk, OnErr, unwrap_or}
+use Rattle.std.proofs.lemmas.Result.{IfOk-weaker, on_err_weaker}
 use Rattle.tdb_space.specs.Extents.{HandPair}
 use Rattle.tdb_space.specs.Accepted.{AcceptWith}
 use Rattle.tdb_space.specs.Pairs.{map_of}
 use Rattle.tdb_space.specs.NewRecord.{rec_len_for}
 use Rattle.tdb_steps.specs.Asked.{appends, joined, stores}
-use Rattle.tdb_steps.specs.Turns.{Makes, AppendMakes, Finds, UpdatesRightly, StoresRightly, AppendsRightly}
+use Rattle.tdb_steps.specs.Turns.{Makes, Stops, AppendMakes, Finds, UpdatesRightly, StoresRightly, AppendsRightly}
 use Rattle.tdb_steps.specs.Order.{StoreOrder}
 use Rattle.tdb_steps.specs.declared.flag.Flag.TheVariants as Flags
 use Rattle.tdb_steps.specs.declared.stage.Stage.TheVariants as Stage
@@ -68,6 +68,7 @@ returns-in_default g c =
       leads = c.store_joined.ensures.leads;
       short = c.requires.whole;
       keeps = λ never. refl;
+      stopped = c.store_joined.ensures.stopped;
       idle = c.store_joined.ensures.idle;
       longer = c.store_joined.ensures.longer;
       within = c.store_joined.ensures.within;
@@ -75,3 +76,11 @@ returns-in_default g c =
       cause = c.store_joined.ensures.cause;
       bytes_read = c.store_joined.ensures.bytes_read;
     }
+
+pub returns-in-Chained-clause-stopped : goal.returns-in-Chained-clause-stopped
+returns-in-Chained-clause-stopped g c =
+    let f = g.S.Space.form c.args.s.now in
+    let a = g.S.Space.image c.args.s.now in
+    let b = g.S.Space.image c.look_to_append.new.s in
+    subst (λ then. OnErr c.look_to_append.result (IsTrue g.S.Space.tells → g.S.Space.size c.args.s.now < 2 ^ 32 → Stops f a b c.args.key.now then)) (sym c.in-Chained.is)
+    (on_err_weaker c.look_to_append.result (λ stopped told small asked others A known. stopped told others A) c.look_to_append.ensures.stopped)

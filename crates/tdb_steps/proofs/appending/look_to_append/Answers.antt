@@ -1,5 +1,5 @@
 -- The append goes on as a store of the joined value, or has stored it where the record stands.
-use Rattle.std.proofs.Common.{◌≡◌, ℕ, inr, List, Some, length, refl, ◌∙◌, ap, subst}
+use Rattle.std.proofs.Common.{◌≡◌, ℕ, inr, List, [], Some, length, refl, ◌∙◌, ap, subst}
 use Rattle.std.specs.Prelude.{IsTrue, IfSome}
 use Rattle.tdb_space.specs.Pairs.{map_of}
 use Rattle.tdb_space.specs.Extents.{HandPair}
@@ -7,11 +7,13 @@ use Rattle.tdb_space.specs.Accepted.{AcceptWith}
 use Rattle.tdb_chain.specs.Place.{IsFound, HoldsKey}
 use Rattle.tdb_steps.specs.Asked.{stores, joined}
 use Rattle.tdb_steps.specs.Stages.{IsKnown}
-use Rattle.tdb_steps.specs.Turns.{TurnMade, UpdatesRightly}
+use Rattle.tdb_steps.specs.Turns.{TurnMade, TurnStopped, UpdatesRightly}
 use Rattle.tdb_steps.specs.declared.flag.Flag.{Flag}
 use Rattle.tdb_steps.specs.declared.flag.Flag.TheVariants.{Replace}
 use Rattle.tdb_steps.specs.declared.stage.Stage.TheVariants as Stage
 use Rattle.tdb_steps.proofs.Made.{moved, as_append}
+use Rattle.tdb_space.proofs.Results.{on_err}
+use Rattle.tdb_steps.proofs.Stopped.{stopped_nothing}
 use Rattle.tdb_steps.proofs.appending.look_to_append.Goals as goal
 
 pub returns-clause-made : goal.returns-clause-made
@@ -57,3 +59,24 @@ returns-clause-joined g c told hands A =
     let place = c.in-Some.place in
     let holds = subst (IsFound f a key) c.in-Some.is (c.in_ok-place.ensures.found told hands A) in
     inr (moved (λ x img. (key : List ℕ) → HoldsKey x img key place → c.in-Some-2.bytes ≡ joined (map_of x img key) more) f k a v c.find.ensures.looked.form c.find.ensures.looked.image (subst (λ made. IfSome made (λ bytes. IsTrue g.S.Space.tells → (key : List ℕ) → HoldsKey k v key place → bytes ≡ joined (map_of k v key) more)) c.in-Some-2.is c.in_ok-bytes.ensures.joined told) key holds)
+
+-- a look failed
+pub returns-in_err-place-clause-stopped : goal.returns-in_err-place-clause-stopped
+returns-in_err-place-clause-stopped g c = on_err c.from_residual.result (λ told others A.
+    stopped_nothing (g.S.Space.form c.args.s.now) (g.S.Space.image c.args.s.now) (g.S.Space.image c.find.new.s) c.args.key.now [] others A c.find.ensures.looked.image)
+
+pub returns-in_err-bytes-clause-stopped : goal.returns-in_err-bytes-clause-stopped
+returns-in_err-bytes-clause-stopped g c = on_err c.from_residual-in_err-bytes.result (λ told others A.
+    stopped_nothing (g.S.Space.form c.args.s.now) (g.S.Space.image c.args.s.now) (g.S.Space.image c.joined_value.new.s) c.args.key.now [] others A (c.joined_value.ensures.looked.image ∙ c.find.ensures.looked.image))
+
+-- the update failed
+pub returns-in_err-next-clause-stopped : goal.returns-in_err-next-clause-stopped
+returns-in_err-next-clause-stopped g c = on_err c.from_residual-in_err-next.result (λ told others A.
+    (let f = g.S.Space.form c.args.s.now in
+    let a = g.S.Space.image c.args.s.now in
+    let b = g.S.Space.image c.update_found.new.s in
+    let key = c.args.key.now in
+    let place = c.in-Some.place in
+    moved (λ x img. (key : List ℕ) (others : List HandPair) → AcceptWith x img others → HoldsKey x img key place → TurnStopped x img b key []) f (g.S.Space.form c.joined_value.new.s) a (g.S.Space.image c.joined_value.new.s)
+    (c.joined_value.ensures.looked.form ∙ c.find.ensures.looked.form) (c.joined_value.ensures.looked.image ∙ c.find.ensures.looked.image) (c.in_err-next.ensures.stopped told) key others A
+    (subst (IsFound f a key) c.in-Some.is (c.in_ok-place.ensures.found told others A))))

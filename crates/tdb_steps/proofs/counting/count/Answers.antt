@@ -6,6 +6,7 @@ use Rattle.tdb_words.specs.Word.{word}
 use Rattle.tdb_law.specs.Counting.{raised}
 use Rattle.tdb_chain.specs.Raised.{next_number}
 use Rattle.tdb_steps.specs.Turns.{number_of}
+use Rattle.tdb_space.proofs.Results.{on_err}
 use Rattle.tdb_steps.proofs.counting.count.Goals as goal
 
 pub returns-then-counts-clause-counted : goal.returns-then-counts-clause-counted
@@ -19,3 +20,7 @@ returns-then-counts-clause-counted g c =
       stay = (c.raise_seq.ensures.kept told hands A).stay;
       number = subst (λ x. number_of f b ≡ raised x (number_of f a)) (sym c.if-counts.true) (number told (let long = A.long in let same = g.met.S.Space.told_size c.args.s.now told in omega (arith, long, same)));
     }) c.raise_seq.ensures.raised
+
+-- or it failed
+pub returns-then-counts-clause-stopped : goal.returns-then-counts-clause-stopped
+returns-then-counts-clause-stopped g c = on_err c.raise_seq.result (λ told hands A. (c.raise_seq.ensures.kept told hands A).stay)

@@ -1,11 +1,12 @@
 -- The old record goes into the free list, and no chain changes.
-use Rattle.std.proofs.Common.{◌<◌, ◌^◌, ◌∷◌, length, refl, arith}
+use Rattle.std.proofs.Common.{◌<◌, ◌^◌, [], ◌∷◌, length, refl, arith}
 use Rattle.tdb_space.specs.Chain.{free_of}
 use Rattle.tdb_free.proofs.Accepted.{can_be_given}
 use Rattle.tdb_free.proofs.Traded.{given_stays}
 use Rattle.tdb_steps.proofs.Made.{stays_made, number_same}
 use Rattle.tdb_steps.specs.declared.stage.Stage.TheVariants as Stage
 use Rattle.tdb_steps.specs.declared.stage.Next.TheVariants as Next
+use Rattle.tdb_steps.proofs.Stopped.{stopped_list}
 use Rattle.tdb_steps.proofs.giving.give_back.Goals as goal
 
 pub returns-in-Ok-clause-made : goal.returns-in-Ok-clause-made
@@ -18,3 +19,13 @@ returns-in-Ok-clause-made g c told small key asked others A known =
     stays_made f a b key asked (Stage.Changed h) (Next.Step Stage.Ending) (h ∷ others) others A
     (given_stays f a b h others A (c.in-Ok.ensures.given told (free_of f a) (can_be_given f a h others A short)))
     (number_same f a b (c.give.ensures.only told (free_of f a) (can_be_given f a h others A short)).header) refl tt tt
+
+-- the give failed
+pub returns-in-Err-clause-stopped : goal.returns-in-Err-clause-stopped
+returns-in-Err-clause-stopped g c told small key others A =
+    let f = g.S.Space.form c.args.s.now in
+    let a = g.S.Space.image c.args.s.now in
+    let b = g.S.Space.image c.give.new.s in
+    let h = c.args.hand in
+    let short : length a < 2 ^ 32 = omega (arith, g.met.S.Space.told_size c.args.s.now told, small) in
+    stopped_list f a b (h ∷ []) (h ∷ others) A (λ i. omega arith) (c.give.ensures.only told (free_of f a) (can_be_given f a h others A short)) key

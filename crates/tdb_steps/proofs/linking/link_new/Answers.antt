@@ -1,13 +1,13 @@
 -- The new record is linked beside the old one or over it.
-use Rattle.std.proofs.Common.{◌≡◌, ◌<◌, ◌∷◌, List, ℕ, sym, subst}
-use Rattle.std.specs.Prelude.{◌^◌, IsTrue, IfOk}
+use Rattle.std.proofs.Common.{◌≡◌, ◌<◌, [], ◌∷◌, List, ℕ, sym, subst}
+use Rattle.std.specs.Prelude.{◌^◌, IsTrue, IfOk, OnErr}
 use Rattle.std.proofs.lemmas.Result.{IfOk-weaker}
 use Rattle.tdb_space.specs.Extents.{HandPair}
 use Rattle.tdb_space.specs.Accepted.{AcceptWith}
-use Rattle.tdb_chain.specs.Place.{HoldsKey}
+use Rattle.tdb_chain.specs.Place.{HoldsKey, IsFound}
 use Rattle.tdb_chain.specs.Changed.{hand_at}
 use Rattle.tdb_steps.specs.Asked.{stores}
-use Rattle.tdb_steps.specs.Turns.{Makes, LinkedOver, LinksRightly}
+use Rattle.tdb_steps.specs.Turns.{Makes, TurnStopped, LinkedOver, LinksRightly}
 use Rattle.tdb_steps.specs.declared.flag.Flag.{Flag}
 use Rattle.tdb_steps.specs.declared.stage.Stage.TheVariants as Stage
 use Rattle.tdb_steps.specs.declared.stage.Next.TheVariants as Next
@@ -55,3 +55,17 @@ returns-in-None-clause-rightly g c =
     (λ next. IsTrue g.S.Space.tells → g.S.Space.size c.args.s.now < 2 ^ 32 → LinksRightly f a c.args.hand c.args.stood_on.now c.args.found next)
     (λ next linked told small. none_rightly f a c.args.hand c.args.stood_on.now c.args.found next c.in-None.is (linked told small))
     c.link_over-in-None.ensures.rightly
+
+-- the link failed, beside the old one
+pub returns-then-has-clause-stopped : goal.returns-then-has-clause-stopped
+returns-then-has-clause-stopped g c =
+    subst (λ found. OnErr c.link_beside.result (IsTrue g.S.Space.tells → g.S.Space.size c.args.s.now < 2 ^ 32 → (others : List HandPair) → AcceptWith (g.S.Space.form c.args.s.now) (g.S.Space.image c.args.s.now) (c.args.hand ∷ others)
+    → IsFound (g.S.Space.form c.args.s.now) (g.S.Space.image c.args.s.now) c.args.key.now found → TurnStopped (g.S.Space.form c.args.s.now) (g.S.Space.image c.args.s.now) (g.S.Space.image c.link_beside.new.s) c.args.key.now (c.args.hand ∷ [])))
+    (sym c.in-Some.is) c.link_beside.ensures.stopped
+
+-- the link failed, over it
+pub returns-else-has-clause-stopped : goal.returns-else-has-clause-stopped
+returns-else-has-clause-stopped g c =
+    subst (λ found. OnErr c.link_over.result (IsTrue g.S.Space.tells → g.S.Space.size c.args.s.now < 2 ^ 32 → (others : List HandPair) → AcceptWith (g.S.Space.form c.args.s.now) (g.S.Space.image c.args.s.now) (c.args.hand ∷ others)
+    → IsFound (g.S.Space.form c.args.s.now) (g.S.Space.image c.args.s.now) c.args.key.now found → TurnStopped (g.S.Space.form c.args.s.now) (g.S.Space.image c.args.s.now) (g.S.Space.image c.link_over.new.s) c.args.key.now (c.args.hand ∷ [])))
+    (sym c.in-Some.is) c.link_over.ensures.stopped

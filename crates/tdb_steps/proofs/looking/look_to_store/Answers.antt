@@ -1,16 +1,19 @@
 -- The store goes on with the record that was found, or has updated it.
-use Rattle.std.proofs.Common.{ℕ, List, Some, length, subst, rules}
+use Rattle.std.proofs.Common.{ℕ, List, [], Some, length, subst, rules}
 use Rattle.std.specs.Prelude.{IsTrue}
-use Rattle.std.proofs.lemmas.Result.{IfOk-weaker}
+use Rattle.std.proofs.lemmas.Result.{IfOk-weaker, on_err_weaker}
 use Rattle.tdb_space.specs.Extents.{HandPair}
 use Rattle.tdb_space.specs.Accepted.{AcceptWith}
 use Rattle.tdb_chain.specs.Place.{IsFound}
 use Rattle.tdb_steps.specs.Asked.{stores}
 use Rattle.tdb_steps.specs.Stages.{IsKnown}
-use Rattle.tdb_steps.specs.Turns.{Makes, TurnMade, UpdatesRightly, Finds}
+use Rattle.tdb_steps.specs.Turns.{Makes, TurnMade, TurnStopped, UpdatesRightly, Finds}
 use Rattle.tdb_steps.specs.declared.flag.Flag.{Flag}
 use Rattle.tdb_steps.specs.declared.stage.Stage.TheVariants as Stage
 use Rattle.tdb_steps.proofs.Made.{moved, store_known}
+use Rattle.tdb_space.proofs.Results.{on_err}
+use Rattle.tdb_chain.specs.Place.{HoldsKey}
+use Rattle.tdb_steps.proofs.Stopped.{stopped_nothing}
 use Rattle.tdb_steps.proofs.looking.look_to_store.Goals as goal
 
 pub returns-clause-made : goal.returns-clause-made
@@ -44,3 +47,21 @@ returns-clause-rightly g c =
     (λ next rightly told others A.
     (Some place, subst (IsFound f a key) c.in-Some.is (c.in_ok-place.ensures.found told others A), subst (λ i. UpdatesRightly i b n (Some place) next) c.find.ensures.looked.image rightly))
     c.update_found.ensures.rightly
+
+-- the look failed
+pub returns-in_err-place-clause-stopped : goal.returns-in_err-place-clause-stopped
+returns-in_err-place-clause-stopped g c = on_err c.from_residual.result (λ told others A.
+    stopped_nothing (g.S.Space.form c.args.s.now) (g.S.Space.image c.args.s.now) (g.S.Space.image c.find.new.s) c.args.key.now [] others A c.find.ensures.looked.image)
+
+-- the change failed
+pub returns-clause-stopped : goal.returns-clause-stopped
+returns-clause-stopped g c =
+    let f = g.S.Space.form c.args.s.now in
+    let a = g.S.Space.image c.args.s.now in
+    let b = g.S.Space.image c.update_found.new.s in
+    let key = c.args.key.now in
+    let place = c.in-Some.place in
+    on_err_weaker c.update_found.result (λ stopped told others A.
+    moved (λ x img. (key : List ℕ) (others : List HandPair) → AcceptWith x img others → HoldsKey x img key place → TurnStopped x img b key []) f (g.S.Space.form c.find.new.s) a (g.S.Space.image c.find.new.s)
+    c.find.ensures.looked.form c.find.ensures.looked.image (stopped told) key others A (subst (IsFound f a key) c.in-Some.is (c.in_ok-place.ensures.found told others A)))
+    c.update_found.ensures.stopped

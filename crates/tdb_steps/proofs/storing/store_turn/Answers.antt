@@ -1,10 +1,10 @@
 -- Each turn of a store is that of its stage.
 use Rattle.std.proofs.Common.{◌<◌, ◌+◌, ℕ, List, length, sym, subst}
-use Rattle.std.specs.Prelude.{◌^◌, IsTrue, IfOk}
-use Rattle.std.proofs.lemmas.Result.{IfOk-weaker}
+use Rattle.std.specs.Prelude.{◌^◌, IsTrue, IfOk, OnErr}
+use Rattle.std.proofs.lemmas.Result.{IfOk-weaker, on_err_weaker}
 use Rattle.tdb_space.specs.NewRecord.{rec_len_for}
 use Rattle.tdb_steps.specs.Asked.{Asked, stores}
-use Rattle.tdb_steps.specs.Turns.{Makes, Finds, UpdatesRightly, StoresRightly}
+use Rattle.tdb_steps.specs.Turns.{Makes, Stops, Finds, UpdatesRightly, StoresRightly}
 use Rattle.tdb_steps.specs.declared.flag.Flag.{Flag}
 use Rattle.tdb_steps.specs.declared.stage.Stage.TheVariants as Stage
 use Rattle.tdb_steps.proofs.storing.store_turn.Goals as goal
@@ -74,3 +74,35 @@ returns-in-Changed-clause-rightly g c =
     subst (λ then. IfOk c.give_back.result (λ next. IsTrue g.S.Space.tells → g.S.Space.size c.args.s.now < 2 ^ 32
     → StoresRightly f a b c.args.key.now (length c.args.value.now) (rec_len_for (length c.args.key.now) (length c.args.value.now)) c.args.limit c.args.stood_on.now then next))
     (sym c.in-Changed.is) c.give_back.ensures.rightly
+
+pub returns-in-Chained-clause-stopped : goal.returns-in-Chained-clause-stopped
+returns-in-Chained-clause-stopped g c =
+    let f = g.S.Space.form c.args.s.now in
+    let a = g.S.Space.image c.args.s.now in
+    let b = g.S.Space.image c.look_to_store.new.s in
+    subst (λ then. OnErr c.look_to_store.result (IsTrue g.S.Space.tells → g.S.Space.size c.args.s.now < 2 ^ 32 → Stops f a b c.args.key.now then)) (sym c.in-Chained.is)
+    (on_err_weaker c.look_to_store.result (λ stopped told small asked others A known. stopped told others A) c.look_to_store.ensures.stopped)
+
+pub returns-in-Listed-clause-stopped : goal.returns-in-Listed-clause-stopped
+returns-in-Listed-clause-stopped g c =
+    let f = g.S.Space.form c.args.s.now in
+    let a = g.S.Space.image c.args.s.now in
+    let b = g.S.Space.image c.take_new.new.s in
+    subst (λ then. OnErr c.take_new.result (IsTrue g.S.Space.tells → g.S.Space.size c.args.s.now < 2 ^ 32 → Stops f a b c.args.key.now then)) (sym c.in-Listed.is)
+    (on_err_weaker c.take_new.result (λ stopped told small asked others A known. stopped told small c.args.key.now others A) c.take_new.ensures.stopped)
+
+pub returns-in-Taken-clause-stopped : goal.returns-in-Taken-clause-stopped
+returns-in-Taken-clause-stopped g c =
+    let f = g.S.Space.form c.args.s.now in
+    let a = g.S.Space.image c.args.s.now in
+    let b = g.S.Space.image c.link_new.new.s in
+    subst (λ then. OnErr c.link_new.result (IsTrue g.S.Space.tells → g.S.Space.size c.args.s.now < 2 ^ 32 → Stops f a b c.args.key.now then)) (sym c.in-Taken.is)
+    (on_err_weaker c.link_new.result (λ stopped told small asked others A known. stopped told small others A known.found) c.link_new.ensures.stopped)
+
+pub returns-in-Changed-clause-stopped : goal.returns-in-Changed-clause-stopped
+returns-in-Changed-clause-stopped g c =
+    let f = g.S.Space.form c.args.s.now in
+    let a = g.S.Space.image c.args.s.now in
+    let b = g.S.Space.image c.give_back.new.s in
+    subst (λ then. OnErr c.give_back.result (IsTrue g.S.Space.tells → g.S.Space.size c.args.s.now < 2 ^ 32 → Stops f a b c.args.key.now then)) (sym c.in-Changed.is)
+    (on_err_weaker c.give_back.result (λ stopped told small asked others A known. stopped told small c.args.key.now others A) c.give_back.ensures.stopped)

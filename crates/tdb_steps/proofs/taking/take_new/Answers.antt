@@ -9,6 +9,7 @@ use Rattle.tdb_free.proofs.Traded.{can_take}
 use Rattle.tdb_free.specs.Growth.{CanBeTaken, TakenBy}
 use Rattle.tdb_free.specs.OnlyList.{OnlyListChanges}
 use Rattle.tdb_steps.proofs.Made.{moved, number_same, took_made, full_made, no_room, said_lengths}
+use Rattle.tdb_steps.proofs.Stopped.{stopped_list}
 use Rattle.tdb_steps.proofs.taking.take_new.Goals as goal
 
 pub returns-in-Ok-take-clause-made : goal.returns-in-Ok-take-clause-made
@@ -59,3 +60,14 @@ returns-in-Err-Full-clause-rightly g c told small =
       no_room f (g.S.Space.form c.ready.new.self) a (g.S.Space.image c.ready.new.self) b (rec_len_for c.args.key_len c.args.value_len) c.rec_len_for-rec_len.result c.args.limit c.in-Err-Full.len c.in-Err-Full.need c.in-Err-Full.field-0
           c.ready.ensures.form c.ready.ensures.image c.rec_len_for-rec_len.ensures c.in-Err-Full.field-0-is (c.in-Err-Full.ensures.full told) short,
     )
+
+-- the take failed
+pub returns-in-Err-Io-clause-stopped : goal.returns-in-Err-Io-clause-stopped
+returns-in-Err-Io-clause-stopped g c told small key others A =
+    let f = g.S.Space.form c.args.s.now in
+    let a = g.S.Space.image c.args.s.now in
+    let b = g.S.Space.image c.take.new.s in
+    let short : length a < 2 ^ 32 = omega (arith, g.met.S.Space.told_size c.args.s.now told, small) in
+    stopped_list f a b [] others A (λ i. omega arith)
+    (moved (λ x img. (offs : List ℕ) → CanBeTaken x img offs → OnlyListChanges x img b offs []) f (g.S.Space.form c.ready.new.self) a (g.S.Space.image c.ready.new.self) c.ready.ensures.form c.ready.ensures.image (c.take.ensures.only told) (free_of f a) (can_take f a others A short))
+    key

@@ -2,7 +2,7 @@
 use Rattle.std.proofs.Common.{◌<◌, [], sym, subst}
 use Rattle.std.specs.Prelude.{◌^◌}
 use Rattle.tdb_space.specs.Accepted.{AcceptWith}
-use Rattle.tdb_free.proofs.Results.{on_err}
+use Rattle.tdb_space.proofs.Results.{on_err}
 use Rattle.tdb_steps.specs.Wiped.{Wiped, WipeStopped}
 use Rattle.tdb_steps.proofs.Made.{moved}
 use Rattle.tdb_steps.proofs.WipeMade.{wiped_made}

@@ -4,7 +4,7 @@ use Rattle.tdb_words.specs.Word.{word}
 use Rattle.tdb_words.proofs.Words.{word_agrees}
 use Rattle.tdb_space.specs.Form.{Form, data_start, free_head}
 use Rattle.tdb_space.proofs.SpareLeft.Rooms.{room_for, room_spent, room_tried, room_then}
-use Rattle.tdb_free.proofs.Results.{on_err}
+use Rattle.tdb_space.proofs.Results.{on_err}
 use Rattle.tdb_steps.specs.Wiped.{MadeFree}
 use Rattle.tdb_steps.proofs.FreeWrites.{torn_none, torn_put, around_still, around_led}
 use Rattle.tdb_steps.proofs.wiping.free_around.Goals as goal

@@ -3,14 +3,16 @@ use Rattle.std.proofs.Common.{◌≡◌, ◌&&◌, List, ◌∙◌, ap, sym, sub
 use Rattle.tdb_steps.specs.declared.stage.Stage.{Stage}
 use Rattle.tdb_steps.specs.declared.stage.Next.{Next}
 use Rattle.tdb_steps.specs.Machines.{begun, IsShort, Fits, Counted}
-use Rattle.tdb_steps.proofs.Turning.{act_stepped, act_ended, rightly_stepped, rightly_ended}
+use Rattle.tdb_steps.proofs.Turning.{act_stepped, act_ended, act_broke, act_halted, rightly_stepped, rightly_ended}
 use Rattle.tdb_space.specs.Extents.{HandPair}
 use Rattle.tdb_space.specs.Accepted.{AcceptWith}
+use Rattle.tdb_space.specs.Stays.{ChainsStay}
 use Rattle.tdb_law.specs.MapCommands.{map_changes}
 use Rattle.tdb_steps.specs.Order.{InOrder}
 use Rattle.tdb_steps.specs.PlainCommands.{command_of}
 use Rattle.tdb_steps.proofs.Counted.{end_rightly, begun_fits}
 use Rattle.tdb_steps.proofs.Rowed.{act_row}
+use Rattle.tdb_space.proofs.Results.{on_err}
 use Rattle.tdb_steps.proofs.machine.Machine.act_turn.Goals as goal
 
 pub returns-in-Step-clause-made : goal.returns-in-Step-clause-made
@@ -67,3 +69,18 @@ pub returns-in_ok-count-in-Done-clause-row : goal.returns-in_ok-count-in-Done-cl
 returns-in_ok-count-in-Done-clause-row g c n is =
     act_row c.self.inside.command c.self.inside.chain c.self.inside.seqnum n c.self.inside.stage c.replace-stage.result c.self.inside.whole c.in_ok-next.field-0 (Next.Done c.in-Done.reply) c.args.self.now
     (sym c.self.view_is) c.replace-stage.ensures.value c.in_ok-next.ensures.order c.in-Done.is is
+
+-- the command failed
+pub returns-in_err-next-clause-stopped : goal.returns-in_err-next-clause-stopped
+returns-in_err-next-clause-stopped g c = on_err c.from_residual.result (λ told small n others is may A K.
+    act_broke (g.S.Space.form c.args.s.now) (g.S.Space.image c.args.s.now) (g.S.Space.image c.act.new.s) c.self.inside.command c.self.inside.chain c.self.inside.seqnum n c.self.inside.stage c.replace-stage.result c.self.inside.whole c.args.self.now others
+    (sym c.self.view_is) c.replace-stage.ensures.value (c.in_err-next.ensures.stopped told small) A K)
+
+-- or the number couldn't be raised
+pub returns-in_err-count-in-Done-clause-stopped : goal.returns-in_err-count-in-Done-clause-stopped
+returns-in_err-count-in-Done-clause-stopped g c = on_err c.from_residual-in_err-count-in-Done.result (λ told small n others is may A K.
+    (let m = g.S.Space.image c.act.new.s in
+    let b = g.S.Space.image c.count.new.s in
+    act_halted (g.S.Space.form c.args.s.now) (g.S.Space.image c.args.s.now) m c.self.inside.command c.self.inside.chain c.self.inside.seqnum n c.self.inside.stage c.replace-stage.result c.self.inside.whole c.take-whole.result c.act.new.whole c.in_ok-next.field-0 c.args.self.now c.args.self.now others
+    (sym c.self.view_is) c.replace-stage.ensures.value c.take-whole.ensures.value c.in_ok-next.ensures.order (c.in_ok-next.ensures.made told small) b c.in-Done.reply c.in-Done.is
+    (subst (λ x. (hands : List HandPair) → AcceptWith x m hands → ChainsStay x m b hands) c.act.ensures.wrote.form (c.in_err-count-in-Done.ensures.stopped told)) is may A K))

@@ -7,6 +7,7 @@ use Rattle.tdb_steps.specs.PlainCommands.{turn_of}
 use Rattle.tdb_steps.proofs.Turning.{lock_turned, row_facts, row_idle, lock_stage, locks_idle}
 use Rattle.tdb_steps.proofs.Rowed.{lock_table, act_table, end_table, ended_rows}
 use Rattle.tdb_steps.proofs.machine.Machine.step.Goals.{in-Done, in_default-turn}
+use Rattle.tdb_space.proofs.Results.{on_err}
 use Rattle.tdb_steps.proofs.machine.Machine.step.Goals as goal
 
 pub returns-in-Some-clause-made : goal.returns-in-Some-clause-made
@@ -41,3 +42,7 @@ returns-clause-locks g c n kept is H =
       | in_default-turn w ↦
           act_table c.args.held.now kept c.args.owner n c.args.locks.now c.match-turn.locks rows H d c.act_turn.new.self c.in_ok-turn.turn c.in_ok-turn.ensures.led w.in_default-turn.not-Done w.locks-is idle
     ]
+
+-- the turn failed
+pub returns-in_err-turn-clause-stopped : goal.returns-in_err-turn-clause-stopped
+returns-in_err-turn-clause-stopped g c = on_err c.from_residual.result c.in_err-turn.ensures.stopped
