@@ -4,6 +4,7 @@ pub mod Nested
 pub mod ExplicitLocks
 pub mod Keys
 pub mod Progress
+pub mod Fullness
 pub mod Turned
 pub mod Fronts
 pub mod Cursors

@@ -3,6 +3,7 @@ pub mod Rows
 pub mod Starts
 pub mod CommitLocks
 pub mod Planned
+pub mod Room
 pub mod Carried
 pub mod CommitTurns
 pub mod Lawful

@@ -1,5 +1,6 @@
 -- What a plan answers, as a turn of a commit.
 use Rattle.std.proofs.Common.{◌≡◌, ℕ, ◌+◌, ◌<◌, ◌≤◌, List, false, ◌==◌, length, slice_index, refl, sym, ◌∙◌, ap, subst, inl, inr, Ok, arith}
+use Rattle.std.specs.Prelude.{Result}
 use Rattle.std.proofs.lemmas.Bool.{cases_lt, cases_eq, ne_eqb}
 use Rattle.std.proofs.lemmas.List.{ext_get_or}
 use Rattle.tdb_disk.specs.History.{History, seen}
@@ -24,7 +25,9 @@ use Rattle.tdb_txn.specs.CommitStates.{planned_plan}
 use Rattle.tdb_txn.specs.Planned.{IsPlannedOn}
 use Rattle.tdb_txn.specs.Txn.{txn_image, txn_pages, txn_size, txn_start}
 use Rattle.tdb_txn.specs.declared.planned.Plan.{Plan}
+use Rattle.tdb_txn.specs.declared.planning.ToCommit.{ToCommit}
 use Rattle.tdb_txn.specs.declared.planning.ToCommit.TheVariants.{Nothing, Ready}
+use Rattle.tdb_txn.specs.declared.refusal.TxnRefusal.{TxnRefusal}
 use Rattle.tdb_txn.specs.declared.states.Planned.{Planned}
 use Rattle.tdb_txn.specs.declared.txn.Txn.{Txn}
 use Rattle.tdb_txn_turns.specs.Commits.{Carries, StandsFor}
@@ -124,6 +127,9 @@ module _ (txn : Txn) (limit : ℕ) (r b : List ℕ) (h new : History) (R : IsRea
   plan_is_ready state answered =
       subst (Carries (IsPlannedOn (planned_plan state)) new r) (sym image)
       (subst (λ x. Carries (IsPlannedOn (planned_plan state)) new x (txn_image txn (seen h))) R.file (plan_carries txn limit (seen h) new (planned_plan state) may (answered R.quiet may).1))
+
+  pub plan_answer : (answer : Result ToCommit TxnRefusal) → (Quiet h → MayCommit txn (seen h) → AnsweredRightly txn limit (seen h) new answer) → AnsweredRightly txn limit r new answer
+  plan_answer answer answered = subst (λ x. AnsweredRightly txn limit x new answer) R.file (answered R.quiet may)
 
   pub plan_stops : (Quiet h → MayCommit txn (seen h) → LeavesOnly h new (Reopens (seen h))) → LeavesOnly h new (Reopens r)
   plan_stops stops = subst (λ x. LeavesOnly h new (Reopens x)) R.file (stops R.quiet may)

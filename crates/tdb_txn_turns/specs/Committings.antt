@@ -5,7 +5,7 @@ use Rattle.tdb_space.specs.Undoing.{Reopens}
 use Rattle.tdb_law.specs.Commands.{Reply, Turn}
 use Rattle.tdb_law.specs.Rows.{Lock, commit_locks}
 use Rattle.tdb_txn_turns.specs.Finishes.{finish_steps, FinishFits, FinishSyncs, IsShut, KnowsFinish, MayLeave}
-use Rattle.tdb_txn_turns.specs.Prepares.{prepare_steps, prepare_row, FullRightly, IsPlanning, KnowsStage, StageFits, StageSyncs}
+use Rattle.tdb_txn_turns.specs.Prepares.{prepare_steps, prepare_row, IsPlanning, KnowsStage, StageFits, StageSyncs}
 use Rattle.tdb_txn_turns.specs.declared.committing.Committing.{Committing}
 use Rattle.tdb_txn_turns.specs.declared.committing.Committing.TheVariants.{Preparing, Finishing}
 use Rattle.tdb_txn_turns.specs.declared.committing.CommitTurn.{CommitTurn}
@@ -88,19 +88,14 @@ CommitLeads c (Full len need) = MayGoOn c × (commit_steps c ≡ 2)
 CommitLeads c Memory = MayGoOn c × (commit_steps c < 3)
 CommitLeads c Done = CanEnd c
 
--- the third turn says rightly that there is no room
-abbrev pub CommitFull : Committing → ℕ → List ℕ → History → ℕ → ℕ → Type 0
-CommitFull (Preparing p) limit r h len need = FullRightly p.stage limit r h len need
-CommitFull (Finishing s) limit r h len need = ⊥
-
 -- What a turn does to the file. It is done with no call, where the file opens to the map of image b already: that is r
 -- where nothing was to be committed.
-abbrev pub CommitMade : ℕ → List ℕ → List ℕ → History → History → Committing → CommitTurn → Type 0
-CommitMade limit r b old new c (Step next) = KnowsCommit next new r b
-CommitMade limit r b old new c (Blocked owner byte again) = new ≡ old
-CommitMade limit r b old new c (Full len need) = (new ≡ old) × CommitFull c limit r new len need
-CommitMade limit r b old new c Memory = new ≡ old
-CommitMade limit r b old new c Done = (new ≡ old) × (commit_steps c ≡ 2 → b ≡ r) × (commit_steps c ≡ 8 → IsShut new b)
+abbrev pub CommitMade : List ℕ → List ℕ → History → History → Committing → CommitTurn → Type 0
+CommitMade r b old new c (Step next) = KnowsCommit next new r b
+CommitMade r b old new c (Blocked owner byte again) = new ≡ old
+CommitMade r b old new c (Full len need) = new ≡ old
+CommitMade r b old new c Memory = new ≡ old
+CommitMade r b old new c Done = (new ≡ old) × (commit_steps c ≡ 2 → b ≡ r) × (commit_steps c ≡ 8 → IsShut new b)
 
 -- what it leaves of the file's length
 abbrev pub CommitLeaves : ℕ → ℕ → ℕ → CommitTurn → Type 0

@@ -4,5 +4,6 @@ pub mod Commits
 pub mod Prepares
 pub mod Finishes
 pub mod Committings
+pub mod Room
 pub mod Laws
 pub mod InsideTxn

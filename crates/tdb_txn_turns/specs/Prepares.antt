@@ -1,18 +1,16 @@
 -- The turns of an outer Prepare, which are the first five of a Commit.
-use Rattle.std.specs.Prelude.{ℕ, ◌+◌, ◌%◌, ◌^◌, ◌≡◌, ◌<◌, ◌≤◌, ◌⊎◌, List, [], Bool, false, if◌then◌else◌, Err}
+use Rattle.std.specs.Prelude.{ℕ, ◌+◌, ◌%◌, ◌^◌, ◌≡◌, ◌<◌, ◌≤◌, ◌⊎◌, List, [], Bool, false, if◌then◌else◌}
 use Rattle.tdb_disk.specs.Count.{RoseBy, RoseUpTo}
 use Rattle.tdb_disk.specs.History.{History, seen}
 use Rattle.tdb_disk.specs.Stop.{Quiet}
 use Rattle.tdb_law.specs.Commands.{Reply, Turn}
 use Rattle.tdb_law.specs.Rows.{Lock, start_locks, commit_locks}
 use Rattle.tdb_law.specs.Held.{locked}
-use Rattle.tdb_txn.specs.Answered.{AnsweredRightly}
 use Rattle.tdb_txn.specs.Commit.{IsFilled, IsPrepared}
 use Rattle.tdb_txn.specs.Committing.{MayCommit}
 use Rattle.tdb_txn.specs.CommitStates.{planned_plan, filled_plan, prepared_plan, plan_length}
 use Rattle.tdb_txn.specs.Planned.{IsPlannedOn}
 use Rattle.tdb_txn.specs.Txn.{txn_depth, txn_doomed, txn_image, txn_size, txn_start}
-use Rattle.tdb_txn.specs.declared.refusal.TxnRefusal.TheVariants as TxnRefusal
 use Rattle.tdb_txn.specs.declared.txn.Txn.{Txn}
 use Rattle.tdb_txn_turns.specs.Commits.{Carries, RestsAt}
 use Rattle.tdb_txn_turns.specs.declared.preparing.PrepareStage.{PrepareStage}
@@ -113,21 +111,16 @@ PrepareLeads p (To.Full len need) = prepare_steps p ≡ 2
 PrepareLeads p To.Memory = IsPlanning p.stage × (prepare_steps p < 3)
 PrepareLeads p (To.Done state) = prepare_steps p ≡ 4
 
--- the third turn says rightly that there is no room
-abbrev pub FullRightly : PrepareStage → ℕ → List ℕ → History → ℕ → ℕ → Type 0
-FullRightly (Locked txn) limit r h len need = AnsweredRightly txn limit r h (Err (TxnRefusal.Full len need))
-FullRightly _ limit r h len need = ⊥
-
 -- What a turn does to the file, of which image r was seen before the Prepare, where image b is that of the transaction.
 -- A turn that is blocked or starved, has no room or finds nothing makes no call that changes the file. It finds nothing
 -- after the plan where image b is r.
-abbrev pub PrepareMade : ℕ → List ℕ → List ℕ → History → History → Preparing → PrepareTurn → Type 0
-PrepareMade limit r b old new p (To.Step next) = KnowsStage next.stage new r b
-PrepareMade limit r b old new p (To.Blocked owner byte again) = new ≡ old
-PrepareMade limit r b old new p To.Nothing = (new ≡ old) × (prepare_steps p ≡ 2 → b ≡ r)
-PrepareMade limit r b old new p (To.Full len need) = (new ≡ old) × FullRightly p.stage limit r new len need
-PrepareMade limit r b old new p To.Memory = new ≡ old
-PrepareMade limit r b old new p (To.Done state) = Carries (IsPrepared (prepared_plan state)) new r b
+abbrev pub PrepareMade : List ℕ → List ℕ → History → History → Preparing → PrepareTurn → Type 0
+PrepareMade r b old new p (To.Step next) = KnowsStage next.stage new r b
+PrepareMade r b old new p (To.Blocked owner byte again) = new ≡ old
+PrepareMade r b old new p To.Nothing = (new ≡ old) × (prepare_steps p ≡ 2 → b ≡ r)
+PrepareMade r b old new p (To.Full len need) = new ≡ old
+PrepareMade r b old new p To.Memory = new ≡ old
+PrepareMade r b old new p (To.Done state) = Carries (IsPrepared (prepared_plan state)) new r b
 
 -- what a turn leaves of the file's length, in a file that had this length before it
 abbrev pub PrepareLeaves : ℕ → ℕ → ℕ → PrepareTurn → Type 0

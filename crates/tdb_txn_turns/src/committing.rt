@@ -6,6 +6,7 @@ ghost use Rattle.tdb_locks.specs.declared.piece.Piece.{Piece};
 ghost use Rattle.tdb_law.specs.Rows.{Lock};
 ghost use Rattle.tdb_law.specs.Held.{locked_next};
 ghost use Rattle.tdb_txn_turns.specs.Committings.{commit_after, commit_steps, commit_row, commit_turn, IsNumbered, IsOpened, CommitFits, KnowsCommit, CommitMayLeave, CommitLeads, CommitMade, CommitLeaves, CommitSyncs};
+ghost use Rattle.tdb_txn_turns.specs.Room.{CommitFull};
 ghost use Rattle.tdb_txn_turns.specs.declared.committing.Committing.TheVariants as Committing;
 ghost use Rattle.tdb_txn_turns.specs.Holding.{HoldsRow, RowTurned};
 ghost use Rattle.tdb_txn_turns.specs.Prepares.{begun_with, prepare_turn, start_held, KeepsWithin};
@@ -95,10 +96,10 @@ impl Committing {
     ///
     /// The first five are those of a Prepare; then it writes, syncs, shuts the gate, and lets go of all that the opener
     /// holds. `Blocked` by the first conflict: then nothing changes. Where nothing is to be committed, the first turn
-    /// or the third ends it. `Full` and `Memory` come up to the third turn, before the file is changed. With every
-    /// reply the opener holds nothing any more. A stop leaves a file that opens to the map before, up to the turn that
-    /// shuts the gate, and from that turn on to the map after. `Io` where the disk failed: then the commit is given up,
-    /// and the opener keeps its locks.
+    /// or the third ends it. `Memory` comes up to the third turn, and `Full` at the third alone, as in a Prepare; both
+    /// before the file is changed. With every reply the opener holds nothing any more. A stop leaves a file that opens
+    /// to the map before, up to the turn that shuts the gate, and from that turn on to the map after. `Io` where the
+    /// disk failed: then the commit is given up, and the opener keeps its locks.
     ///
     /// Cost: a pass over the lock table, or a state of a commit.
     pub fn step<D: Disk>(
@@ -114,7 +115,8 @@ impl Committing {
         ensures leads { IfOk result (CommitLeads self) }
         ensures stops { IsTrue D.tells → (r b : List ℕ) → KnowsCommit self (D.history d.old) r b → LeavesOnly (D.history d.old) (D.history d.new) (CommitMayLeave self r b) }
         ensures made { IfOk result (λ turn. IsTrue D.tells → (r b : List ℕ) → KnowsCommit self (D.history d.old) r b
-            → CommitMade limit r b (D.history d.old) (D.history d.new) self turn) }
+            → CommitMade r b (D.history d.old) (D.history d.new) self turn) }
+        ensures full { IfOk result (λ turn. IsTrue D.tells → (r b : List ℕ) → KnowsCommit self (D.history d.old) r b → CommitFull self limit r (commit_turn turn)) }
         ensures leaves { IfOk result (CommitLeaves limit (D.size d.old) (D.size d.new)) }
         ensures length { OnOk result (KeepsWithin limit (D.size d.old) (D.size d.new)) }
         ensures err { OnErr result (locks.new ≡ locks.old) }

@@ -7,6 +7,7 @@ ghost use Rattle.tdb_space.specs.Undoing.{Reopens};
 ghost use Rattle.tdb_law.specs.Rows.{commit_locks};
 ghost use Rattle.tdb_txn_turns.specs.Holding.{HoldsRow, RowTurned};
 ghost use Rattle.tdb_txn_turns.specs.Prepares.{at_stage, begun_with, prepare_steps, prepare_row, prepare_turn, start_held, MayPlan, StageFits, KeepsWithin, IsReady, KnowsStage, PrepareLeads, PrepareMade, PrepareLeaves, PrepareSyncs};
+ghost use Rattle.tdb_txn_turns.specs.Room.{FullAsPlanned, PrepareFull};
 ghost use Rattle.tdb_txn_turns.specs.declared.preparing.PrepareStage.TheVariants as PrepareStage;
 
 use crate::taking::{ALL_RECORDS, Attempt, take, take_opening};
@@ -73,7 +74,7 @@ fn records_turn(txn: Txn, numbered: bool, locks: &mut Locks, owner: u32) -> Prep
     ensures locks { HoldsRow (commit_locks numbered) start_held owner 0 locks.old
         → RowTurned true (commit_locks numbered) start_held owner 0 locks.old locks.new (prepare_turn result) }
     ensures leads { PrepareLeads (at_stage numbered (PrepareStage.Begun txn)) result }
-    ensures made { (limit : ℕ) (r b : List ℕ) (h : History) → KnowsStage (PrepareStage.Begun txn) h r b → PrepareMade limit r b h h (at_stage numbered (PrepareStage.Begun txn)) result }
+    ensures made { (r b : List ℕ) (h : History) → KnowsStage (PrepareStage.Begun txn) h r b → PrepareMade r b h h (at_stage numbered (PrepareStage.Begun txn)) result }
     ensures leaves { (size limit : ℕ) → MayPlan txn size limit → PrepareLeaves limit size size result }
 {
     match take(locks, owner, ALL_RECORDS, Len::ToEnd, Kind::Write) {
@@ -98,7 +99,7 @@ fn opening_turn(txn: Txn, numbered: bool, locks: &mut Locks, owner: u32) -> Prep
     ensures locks { HoldsRow (commit_locks numbered) start_held owner 1 locks.old
         → RowTurned true (commit_locks numbered) start_held owner 1 locks.old locks.new (prepare_turn result) }
     ensures leads { PrepareLeads (at_stage numbered (PrepareStage.Records txn)) result }
-    ensures made { (limit : ℕ) (r b : List ℕ) (h : History) → KnowsStage (PrepareStage.Records txn) h r b → PrepareMade limit r b h h (at_stage numbered (PrepareStage.Records txn)) result }
+    ensures made { (r b : List ℕ) (h : History) → KnowsStage (PrepareStage.Records txn) h r b → PrepareMade r b h h (at_stage numbered (PrepareStage.Records txn)) result }
     ensures leaves { (size limit : ℕ) → MayPlan txn size limit → PrepareLeaves limit size size result }
 {
     match take_opening(locks, owner, numbered) {
@@ -118,7 +119,8 @@ fn opening_turn(txn: Txn, numbered: bool, locks: &mut Locks, owner: u32) -> Prep
     }
 }
 
-/// The third plans the commit. Where there is no room, or no memory, the opener lets go of all that it holds.
+/// The third plans the commit. Where there is no room, or no memory, the opener lets go of all that it holds. `Full`
+/// comes just where a new undo area is wanted, and with it the file would pass the limit.
 fn plan_turn<D: Disk>(
     txn: Txn,
     numbered: bool,
@@ -133,7 +135,8 @@ fn plan_turn<D: Disk>(
     ensures leads { IfOk result (PrepareLeads (at_stage numbered (PrepareStage.Locked txn))) }
     ensures stops { IsTrue D.tells → (r b : List ℕ) → IsReady txn (D.history d.old) r b → LeavesOnly (D.history d.old) (D.history d.new) (Reopens r) }
     ensures made { IfOk result (λ turn. IsTrue D.tells → (r b : List ℕ) → IsReady txn (D.history d.old) r b
-        → PrepareMade limit r b (D.history d.old) (D.history d.new) (at_stage numbered (PrepareStage.Locked txn)) turn) }
+        → PrepareMade r b (D.history d.old) (D.history d.new) (at_stage numbered (PrepareStage.Locked txn)) turn) }
+    ensures full { IfOk result (λ turn. IsTrue D.tells → (r b : List ℕ) → IsReady txn (D.history d.old) r b → FullAsPlanned txn limit r (prepare_turn turn)) }
     ensures leaves { IfOk result (PrepareLeaves limit (D.size d.old) (D.size d.new)) }
     ensures length { OnOk result (KeepsWithin limit (D.size d.old) (D.size d.new)) }
     ensures err { OnErr result (locks.new ≡ locks.old) }
@@ -192,10 +195,11 @@ impl Preparing {
     ///
     /// The turns take all records for writing; the opening lock, and the sequence number with it where the changes
     /// raise that; see to the undo area; fill it; and open its gate. `Blocked` by the first conflict: then nothing
-    /// changes. Where nothing is to be committed, the first turn or the third ends it so. `Full` and `Memory` come up
-    /// to the third turn, before the file is changed, and then the opener holds nothing. A stop at any moment leaves a
-    /// file that opens to the map before. `Io` where the disk failed: then the commit is given up, and the opener keeps
-    /// its locks.
+    /// changes. Where nothing is to be committed, the first turn or the third ends it so. `Memory` comes up to the third
+    /// turn; `Full` at the third alone, just where a new undo area is wanted and with it the file would pass the limit,
+    /// with the length of the transaction's image and that of the area. Both come before the file is changed, and then
+    /// the opener holds nothing. A stop at any moment leaves a file that opens to the map before. `Io` where the disk
+    /// failed: then the commit is given up, and the opener keeps its locks.
     ///
     /// Cost: a pass over the lock table, or a state of a commit.
     pub fn step<D: Disk>(
@@ -211,7 +215,8 @@ impl Preparing {
         ensures leads { IfOk result (PrepareLeads self) }
         ensures stops { IsTrue D.tells → (r b : List ℕ) → KnowsStage self.stage (D.history d.old) r b → LeavesOnly (D.history d.old) (D.history d.new) (Reopens r) }
         ensures made { IfOk result (λ turn. IsTrue D.tells → (r b : List ℕ) → KnowsStage self.stage (D.history d.old) r b
-            → PrepareMade limit r b (D.history d.old) (D.history d.new) self turn) }
+            → PrepareMade r b (D.history d.old) (D.history d.new) self turn) }
+        ensures full { IfOk result (λ turn. IsTrue D.tells → (r b : List ℕ) → KnowsStage self.stage (D.history d.old) r b → PrepareFull self.stage limit r (prepare_turn turn)) }
         ensures leaves { IfOk result (PrepareLeaves limit (D.size d.old) (D.size d.new)) }
         ensures length { OnOk result (KeepsWithin limit (D.size d.old) (D.size d.new)) }
         ensures err { OnErr result (locks.new ≡ locks.old) }

@@ -3,7 +3,7 @@ use Rattle.std.proofs.Common.{◌≡◌, List, ℕ, ◌∷◌, subst}
 use Rattle.std.specs.Prelude.{Result, Ok, Err, IfOk, OnOk}
 use Rattle.tdb_txn.specs.declared.txn.Txn.{Txn}
 
--- what holds of an answer by a fact of it, or by two
+-- what holds of an answer by a fact of it, by two, or by three
 pub weaker : {V F : Type 0} (r : Result V F) (P Q : V → Type 0) → ((v : V) → P v → Q v) → IfOk r P → IfOk r Q
 weaker (Ok v) P Q then p = then v p
 weaker (Err e) P Q then p = tt
@@ -11,6 +11,10 @@ weaker (Err e) P Q then p = tt
 pub weaker_by : {V F : Type 0} (r : Result V F) (P Q R : V → Type 0) → ((v : V) → P v → Q v → R v) → IfOk r P → IfOk r Q → IfOk r R
 weaker_by (Ok v) P Q R then p q = then v p q
 weaker_by (Err e) P Q R then p q = tt
+
+pub weaker_three : {V F : Type 0} (r : Result V F) (P Q R S : V → Type 0) → ((v : V) → P v → Q v → R v → S v) → IfOk r P → IfOk r Q → IfOk r R → IfOk r S
+weaker_three (Ok v) P Q R S then p q s = then v p q s
+weaker_three (Err e) P Q R S then p q s = tt
 
 pub ok_so : {V F : Type 0} (r : Result V F) (P : V → Type 0) (Q : Type 0) → ((v : V) → P v → Q) → IfOk r P → OnOk r Q
 ok_so (Ok v) P Q then p = then v p

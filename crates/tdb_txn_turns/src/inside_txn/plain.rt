@@ -6,12 +6,14 @@ ghost use Rattle.tdb_space.specs.Form.{form_in};
 ghost use Rattle.tdb_space.specs.Accepted.{AcceptWith};
 ghost use Rattle.tdb_law.specs.Commands.{is_done};
 ghost use Rattle.tdb_law.specs.Commands.Command.{OnMap};
+ghost use Rattle.tdb_law.specs.Commands.Turn.{Ends};
 ghost use Rattle.tdb_law.specs.MapCommands.{map_changes};
 ghost use Rattle.tdb_law.specs.Openers.{Own};
 ghost use Rattle.tdb_law.specs.Refusals.{refusal};
 ghost use Rattle.tdb_steps.specs.Machines.{begun, IsShort, Fits};
 ghost use Rattle.tdb_steps.specs.PlainCommands.{IsKeyed, command_of, reply_of};
 ghost use Rattle.tdb_steps.specs.Turns.{number_of};
+ghost use Rattle.tdb_steps.specs.Room.{FullExactly};
 ghost use Rattle.tdb_txn.specs.Committing.{MayCommit};
 ghost use Rattle.tdb_txn.specs.Txn.{txn_form, txn_image, txn_start, txn_size, txn_spare, txn_depth, txn_doomed};
 ghost use Rattle.tdb_walk.specs.declared.standing.Standing.TheVariants.{On};
@@ -60,6 +62,8 @@ fn take_in_pages<D: Disk>(
     requires fits { Fits machine.old (txn_size txn.old) (txn_spare txn.old) }
     ensures done { IfOk result (λ reply. IsTrue D.tells → let base = seen (D.history d.old) in AcceptWith (txn_form txn.old) (txn_image txn.old base) []
         → ImageDone (txn_form txn.old) (txn_image txn.old base) (txn_image txn.new base) (command_of machine.old.command) machine.old.seqnum (reply_of reply)) }
+    ensures full { IfOk result (λ reply. IsTrue D.tells → let base = seen (D.history d.old) in AcceptWith (txn_form txn.old) (txn_image txn.old base) []
+        → FullExactly (txn_form txn.old) (txn_image txn.old base) limit (OnMap (command_of machine.old.command)) (Ends (reply_of reply))) }
     ensures walks { IfOk result (λ reply. IsTrue D.tells → let base = seen (D.history d.old) in AcceptWith (txn_form txn.old) (txn_image txn.old base) []
         → IsKeyed machine.old.command → (chain off : ℕ) → Contains stood_on.now off → StandsIn (txn_form txn.old) (txn_image txn.old base) (On chain off)
         → WalkKept (txn_form txn.old) (txn_image txn.old base) (txn_image txn.new base) chain off (command_of machine.old.command) (reply_of reply)) }
@@ -84,9 +88,10 @@ impl OwnTxn {
     /// stands on a record at `stood_on` if it stands on one. `h` is the header of the file.
     ///
     /// The reply is that of the command on the map of the transaction, or says that memory or space is wanting, and
-    /// then that map is as it was. Nothing is written to the disk, and no lock is taken. With `Ok` of a command that
-    /// may change the map there is something to commit, and the sequence number is raised where changes count. `Io`
-    /// only where the disk failed.
+    /// then that map is as it was. `Full` comes exactly where the image of the transaction has no room, up to the limit,
+    /// for what the command stores, with the length of that image and what the record needs. Nothing is written to the
+    /// disk, and no lock is taken. With `Ok` of a command that may change the map there is something to commit, and the
+    /// sequence number is raised where changes count. `Io` only where the disk failed.
     ///
     /// The cursor rests where it did: its record is marked as dead where the command deletes it or links another one
     /// in its place, and stays in its chain.
@@ -113,6 +118,8 @@ impl OwnTxn {
             (number_of (form_of self.old) base) (number_of (form_of self.old) (image_of self.old base)) (number_of (form_of self.old) (image_of self.new base)) (reply_of reply)) }
         ensures done { IfOk result (λ reply. IsTrue D.tells → let base = seen (D.history d.old) in AcceptWith (form_of self.old) (image_of self.old base) []
             → ImageDone (form_of self.old) (image_of self.old base) (image_of self.new base) (command_of command) self.old.numbered (reply_of reply)) }
+        ensures full { IfOk result (λ reply. IsTrue D.tells → let base = seen (D.history d.old) in AcceptWith (form_of self.old) (image_of self.old base) []
+            → FullExactly (form_of self.old) (image_of self.old base) limit (OnMap (command_of command)) (Ends (reply_of reply))) }
         ensures walks { IfOk result (λ reply. IsTrue D.tells → let base = seen (D.history d.old) in (walk : Walk) → RestsInside self.old base walk → IsEntered stood_on.now walk.cursor.place
             → (x : Own) → refusal (form_of self.old) (OnMap (command_of command)) (own_inside (with_cursor x walk) self.old base) ≡ None
             → WalksInside x self.old self.new base walk walk (OnMap (command_of command)) (reply_of reply)) }

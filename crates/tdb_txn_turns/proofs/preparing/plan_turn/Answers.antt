@@ -1,11 +1,15 @@
 -- What the plan answers.
-use Rattle.std.proofs.Common.{true, Ok, sym, ◌∙◌, subst}
+use Rattle.std.proofs.Common.{true, Ok, Err, sym, ◌∙◌, subst}
 use Rattle.tdb_disk.specs.History.{seen}
 use Rattle.tdb_law.specs.Rows.{commit_locks}
 use Rattle.tdb_txn.specs.Answered.{AnsweredRightly, LeftFor}
+use Rattle.tdb_txn.specs.declared.planning.ToCommit.TheVariants.{Nothing, Ready}
+use Rattle.tdb_txn.specs.declared.refusal.TxnRefusal.TheVariants as TxnRefusal
+use Rattle.tdb_txn.specs.CommitStates.{planned_plan}
 use Rattle.tdb_txn_turns.specs.Prepares.{start_held}
 use Rattle.tdb_txn_turns.proofs.CommitLocks.{third_wants}
-use Rattle.tdb_txn_turns.proofs.Planned.{plan_finds_nothing, plan_is_ready}
+use Rattle.tdb_txn_turns.proofs.Planned.{plan_answer, plan_finds_nothing, plan_is_ready}
+use Rattle.tdb_txn_turns.proofs.Room.{planned_full, planned_memory, planned_nothing, planned_ready}
 use Rattle.tdb_txn_turns.proofs.Rows.{row_steps}
 use Rattle.tdb_txn_turns.proofs.preparing.plan_turn.Goals as goal
 
@@ -29,3 +33,34 @@ returns-in-Ok-Ready-clause-made g c told r b R =
     let new = g.D.Disk.history c.plan.new.d in
     plan_is_ready c.args.txn c.args.limit r b h new R i.state
     (λ quiet may. subst (λ x. AnsweredRightly c.args.txn c.args.limit (seen h) new (Ok x)) i.field-0-is (i.ensures.answered told quiet may))
+
+-- what it answers in the file as it was before
+pub returns-in-Ok-Nothing-clause-full : goal.returns-in-Ok-Nothing-clause-full
+returns-in-Ok-Nothing-clause-full g c told r b R =
+    let i = c.in-Ok-Nothing in
+    let a = c.args in
+    let h = g.D.Disk.history a.d.now in
+    let new = g.D.Disk.history c.plan.new.d in
+    let A = plan_answer a.txn a.limit r b h new R (Ok Nothing) (λ quiet may. subst (λ x. AnsweredRightly a.txn a.limit (seen h) new (Ok x)) i.field-0-is (i.ensures.answered told quiet may)) in
+    planned_nothing a.txn a.limit r A
+
+pub returns-in-Ok-Ready-clause-full : goal.returns-in-Ok-Ready-clause-full
+returns-in-Ok-Ready-clause-full g c told r b R =
+    let i = c.in-Ok-Ready in
+    let a = c.args in
+    let h = g.D.Disk.history a.d.now in
+    let new = g.D.Disk.history c.plan.new.d in
+    let A = plan_answer a.txn a.limit r b h new R (Ok (Ready i.state)) (λ quiet may. subst (λ x. AnsweredRightly a.txn a.limit (seen h) new (Ok x)) i.field-0-is (i.ensures.answered told quiet may)) in
+    planned_ready a.txn a.limit r new (planned_plan i.state) A.1
+
+pub returns-in-Err-Full-clause-full : goal.returns-in-Err-Full-clause-full
+returns-in-Err-Full-clause-full g c told r b R =
+    let i = c.in-Err-Full in
+    let a = c.args in
+    let h = g.D.Disk.history a.d.now in
+    let new = g.D.Disk.history c.plan.new.d in
+    let A = plan_answer a.txn a.limit r b h new R (Err (TxnRefusal.Full i.len i.need)) (λ quiet may. subst (λ x. AnsweredRightly a.txn a.limit (seen h) new (Err x)) i.field-0-is (i.ensures.answered told quiet may)) in
+    planned_full a.txn a.limit r new i.len i.need A
+
+pub returns-in-Err-Memory-clause-full : goal.returns-in-Err-Memory-clause-full
+returns-in-Err-Memory-clause-full g c told r b R = planned_memory c.args.txn c.args.limit r

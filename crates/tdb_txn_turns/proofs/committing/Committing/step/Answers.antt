@@ -1,13 +1,17 @@
 -- A turn of a Prepare, and one that ends a commit, as a turn of a Commit.
-use Rattle.std.proofs.Common.{Bool, false, ◌+◌, subst, sym}
+use Rattle.std.proofs.Common.{Bool, false, ◌+◌, ℕ, List, IsTrue, subst, sym}
+use Rattle.tdb_law.specs.Commands.Reply.{Done}
+use Rattle.tdb_law.specs.Commands.Turn.{Step, Ends}
 use Rattle.tdb_law.specs.Rows.{commit_locks}
-use Rattle.tdb_txn_turns.specs.Committings.{commit_row, commit_steps, commit_turn, CommitLeads, IsNumbered}
+use Rattle.tdb_txn_turns.specs.Committings.{commit_row, commit_steps, commit_turn, CommitLeads, IsNumbered, KnowsCommit}
 use Rattle.tdb_txn_turns.specs.Finishes.{finish_steps, finish_turn}
 use Rattle.tdb_txn_turns.specs.Holding.{HoldsRow, RowTurned}
 use Rattle.tdb_txn_turns.specs.Prepares.{prepare_row, prepare_steps, start_held}
+use Rattle.tdb_txn_turns.specs.Room.{CommitFull, PrepareFull}
 use Rattle.tdb_txn_turns.specs.declared.committing.Committing.TheVariants.{Preparing}
 use Rattle.tdb_txn_turns.specs.declared.finishing.FinishTurn.TheVariants as To
 use Rattle.tdb_txn_turns.proofs.CommitTurns.{finishing_wants, opened_wants, prepare_leads}
+use Rattle.tdb_txn_turns.proofs.Room.{commit_full, never_done, never_step}
 use Rattle.tdb_txn_turns.proofs.committing.Committing.step.Goals as goal
 
 pub returns-in_ok-turn-in-Preparing-clause-locks : goal.returns-in_ok-turn-in-Preparing-clause-locks
@@ -45,3 +49,18 @@ returns-in-Done-clause-locks g c =
     → RowTurned false (commit_row s numbered) start_held c.args.owner (commit_steps s) ps c.step-in-Finishing.new.locks (finish_turn To.Done)) (sym c.in-Finishing.is)
     (λ numbered same H. subst (λ t. RowTurned false (commit_locks numbered) start_held c.args.owner (5 + finish_steps s) ps c.step-in-Finishing.new.locks (finish_turn t)) c.in-Done.is
     (i.ensures.locks (commit_locks numbered) start_held (5 + finish_steps s) H (finishing_wants numbered s)))
+
+-- Full, as in the turn of a Prepare, and never later
+pub returns-in_ok-turn-in-Preparing-clause-full : goal.returns-in_ok-turn-in-Preparing-clause-full
+returns-in_ok-turn-in-Preparing-clause-full g c =
+    let i = c.in_ok-turn-in-Preparing in
+    let p = c.in-Preparing.preparing in
+    let h = g.D.Disk.history c.args.d.now in
+    subst (λ s. IsTrue g.D.Disk.tells → (r b : List ℕ) → KnowsCommit s h r b → CommitFull s c.args.limit r (commit_turn c.go_on.result)) (sym c.in-Preparing.is)
+    (λ told r b K. subst (λ t. PrepareFull p.stage c.args.limit r (commit_turn t)) (sym c.go_on.ensures.result) (commit_full p.stage c.args.limit r i.turn (i.ensures.full told r b K)))
+
+pub returns-in-Step-clause-full : goal.returns-in-Step-clause-full
+returns-in-Step-clause-full g c told r b K = subst (λ s. CommitFull s c.args.limit r Step) (sym c.in-Finishing.is) never_step
+
+pub returns-in-Done-clause-full : goal.returns-in-Done-clause-full
+returns-in-Done-clause-full g c told r b K = subst (λ s. CommitFull s c.args.limit r (Ends Done)) (sym c.in-Finishing.is) never_done

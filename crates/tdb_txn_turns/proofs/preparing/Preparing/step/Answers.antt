@@ -1,11 +1,18 @@
 -- What is known of a stage is what its turn begins with.
-use Rattle.std.proofs.Common.{List, ℕ, IsTrue, IfOk, sym, subst}
+use Rattle.std.proofs.Common.{List, ℕ, IsTrue, IfOk, sym, subst, arith}
 use Rattle.tdb_disk.specs.Count.{RoseBy}
+use Rattle.tdb_law.specs.Commands.Reply.{Done}
+use Rattle.tdb_law.specs.Commands.Turn.{Step, Ends}
 use Rattle.tdb_txn.specs.Commit.{IsFilled, IsPrepared}
 use Rattle.tdb_txn.specs.CommitStates.{planned_plan, filled_plan, prepared_plan}
 use Rattle.tdb_txn.specs.Planned.{IsPlannedOn}
-use Rattle.tdb_txn_turns.specs.Prepares.{at_stage, KnowsStage, StageFits, PrepareMade}
+use Rattle.tdb_txn_turns.specs.Prepares.{at_stage, prepare_turn, KnowsStage, StageFits, PrepareMade}
+use Rattle.tdb_txn_turns.specs.Room.{PrepareFull}
+use Rattle.tdb_txn_turns.specs.declared.preparing.PrepareStage.{PrepareStage}
+use Rattle.tdb_txn_turns.specs.declared.preparing.PrepareStage.TheVariants as Stage
+use Rattle.tdb_txn_turns.specs.declared.preparing.PrepareTurn.TheVariants as To
 use Rattle.tdb_txn_turns.proofs.Carried.{carried_stops, carried_on, carried_filled, rests_stops, ready_rests}
+use Rattle.tdb_txn_turns.proofs.Room.{early_full, never_done, never_step}
 use Rattle.tdb_txn_turns.proofs.preparing.Preparing.step.Goals as goal
 
 pub returns-in_err-fill-in-Planned-clause-stops : goal.returns-in_err-fill-in-Planned-clause-stops
@@ -31,8 +38,8 @@ returns-in-Begun-clause-stops g c told r b K =
 pub returns-in-Begun-clause-made : goal.returns-in-Begun-clause-made
 returns-in-Begun-clause-made g c told r b =
     let h = g.D.Disk.history c.args.d.now in
-    subst (λ s. KnowsStage s h r b → PrepareMade c.args.limit r b h h (at_stage c.args.self.numbered s) c.records_turn.result) (sym c.in-Begun.is)
-    (c.records_turn.ensures.made c.args.limit r b h)
+    subst (λ s. KnowsStage s h r b → PrepareMade r b h h (at_stage c.args.self.numbered s) c.records_turn.result) (sym c.in-Begun.is)
+    (c.records_turn.ensures.made r b h)
 
 pub returns-in-Begun-clause-leaves : goal.returns-in-Begun-clause-leaves
 returns-in-Begun-clause-leaves g c =
@@ -47,8 +54,8 @@ returns-in-Records-clause-stops g c told r b K =
 pub returns-in-Records-clause-made : goal.returns-in-Records-clause-made
 returns-in-Records-clause-made g c told r b =
     let h = g.D.Disk.history c.args.d.now in
-    subst (λ s. KnowsStage s h r b → PrepareMade c.args.limit r b h h (at_stage c.args.self.numbered s) c.opening_turn.result) (sym c.in-Records.is)
-    (c.opening_turn.ensures.made c.args.limit r b h)
+    subst (λ s. KnowsStage s h r b → PrepareMade r b h h (at_stage c.args.self.numbered s) c.opening_turn.result) (sym c.in-Records.is)
+    (c.opening_turn.ensures.made r b h)
 
 pub returns-in-Records-clause-leaves : goal.returns-in-Records-clause-leaves
 returns-in-Records-clause-leaves g c =
@@ -64,7 +71,7 @@ pub returns-in-Locked-clause-made : goal.returns-in-Locked-clause-made
 returns-in-Locked-clause-made g c =
     let h = g.D.Disk.history c.args.d.now in
     let new = g.D.Disk.history c.plan_turn.new.d in
-    subst (λ s. IfOk c.plan_turn.result (λ turn. IsTrue g.D.Disk.tells → (r b : List ℕ) → KnowsStage s h r b → PrepareMade c.args.limit r b h new (at_stage c.args.self.numbered s) turn)) (sym c.in-Locked.is)
+    subst (λ s. IfOk c.plan_turn.result (λ turn. IsTrue g.D.Disk.tells → (r b : List ℕ) → KnowsStage s h r b → PrepareMade r b h new (at_stage c.args.self.numbered s) turn)) (sym c.in-Locked.is)
     c.plan_turn.ensures.made
 
 pub returns-in_ok-fill-in-Planned-clause-stops : goal.returns-in_ok-fill-in-Planned-clause-stops
@@ -88,3 +95,29 @@ returns-in_ok-open_gate-in-Filled-clause-made g c told r b K =
     let h = g.D.Disk.history c.args.d.now in
     carried_on (IsFilled (filled_plan c.in-Filled.state)) (IsPrepared (prepared_plan c.in_ok-open_gate-in-Filled.field-0)) h (g.D.Disk.history c.open_gate.new.d) r b
     (subst (λ s. KnowsStage s h r b) c.in-Filled.is K) (c.in_ok-open_gate-in-Filled.ensures.prepared told)
+
+-- Full, by the stage
+pub returns-in-Unchanged-clause-full : goal.returns-in-Unchanged-clause-full
+returns-in-Unchanged-clause-full g c told r b K = subst (λ s. PrepareFull s c.args.limit r (prepare_turn To.Nothing)) (sym c.in-Unchanged.is) never_done
+
+pub returns-in-Begun-clause-full : goal.returns-in-Begun-clause-full
+returns-in-Begun-clause-full g c told r b K =
+    subst (λ s. PrepareFull s c.args.limit r (prepare_turn c.records_turn.result)) (sym c.in-Begun.is)
+    (early_full c.args.self.numbered (Stage.Begun c.in-Begun.txn) c.args.limit r c.records_turn.result c.records_turn.ensures.leads (λ third. omega (arith, third)))
+
+pub returns-in-Records-clause-full : goal.returns-in-Records-clause-full
+returns-in-Records-clause-full g c told r b K =
+    subst (λ s. PrepareFull s c.args.limit r (prepare_turn c.opening_turn.result)) (sym c.in-Records.is)
+    (early_full c.args.self.numbered (Stage.Records c.in-Records.txn) c.args.limit r c.opening_turn.result c.opening_turn.ensures.leads (λ third. omega (arith, third)))
+
+pub returns-in-Locked-clause-full : goal.returns-in-Locked-clause-full
+returns-in-Locked-clause-full g c =
+    let h = g.D.Disk.history c.args.d.now in
+    subst (λ s. IfOk c.plan_turn.result (λ turn. IsTrue g.D.Disk.tells → (r b : List ℕ) → KnowsStage s h r b → PrepareFull s c.args.limit r (prepare_turn turn))) (sym c.in-Locked.is)
+    c.plan_turn.ensures.full
+
+pub returns-in_ok-fill-in-Planned-clause-full : goal.returns-in_ok-fill-in-Planned-clause-full
+returns-in_ok-fill-in-Planned-clause-full g c told r b K = subst (λ s. PrepareFull s c.args.limit r Step) (sym c.in-Planned.is) never_step
+
+pub returns-in_ok-open_gate-in-Filled-clause-full : goal.returns-in_ok-open_gate-in-Filled-clause-full
+returns-in_ok-open_gate-in-Filled-clause-full g c told r b K = subst (λ s. PrepareFull s c.args.limit r (Ends Done)) (sym c.in-Filled.is) never_done

@@ -2,6 +2,9 @@
 use Rattle.std.proofs.Common.{ℕ, refl, ◌∙◌, ap, subst}
 use Rattle.std.specs.Prelude.{◌&&◌, ◌||◌, Contains}
 use Rattle.tdb_law.specs.Commands.{is_done}
+use Rattle.tdb_law.specs.Commands.Command.{OnMap}
+use Rattle.tdb_law.specs.Commands.Turn.{Ends}
+use Rattle.tdb_steps.specs.Room.{FullExactly}
 use Rattle.tdb_txn.specs.Txn.{txn_image}
 use Rattle.tdb_disk.specs.History.{seen}
 use Rattle.tdb_steps.specs.PlainCommands.{IsKeyed, command_of, reply_of}
@@ -25,6 +28,12 @@ returns-clause-turned g c told A x R =
     (record { form = e.form; start = e.start; depth = e.depth; doomed = e.doomed; numbered = refl }) R
     (subst (λ d. ImageDone (form_of old) (image_of old base) (txn_image c.take_in_pages-reply.new.txn base) (command_of d.command) d.seqnum (reply_of c.in_ok-reply.reply)) c.new-machine.ensures (e.done told A))
     (ap (λ b. old.changed || b) (c.has_changed.ensures ∙ ap (λ b. b && is_done (reply_of c.in_ok-reply.reply)) c.changes-changes.ensures))
+
+pub returns-clause-full : goal.returns-clause-full
+returns-clause-full g c told A =
+    let old = c.args.self.now in
+    let base = seen (g.D.Disk.history c.args.d.now) in
+    subst (λ d. FullExactly (form_of old) (image_of old base) c.args.limit (OnMap (command_of d.command)) (Ends (reply_of c.in_ok-reply.reply))) c.new-machine.ensures (c.in_ok-reply.ensures.full told A)
 
 pub returns-clause-commits : goal.returns-clause-commits
 returns-clause-commits g c told M =
