@@ -58,7 +58,7 @@ change_goes : (t : Txn) (c : Committing) → MayGoOn c → plans_in t ≡ true �
 change_goes t (Preparing p) some plans = plan_goes t p.stage some plans
 change_goes t (Finishing s) some plans = plans
 
-module _ (f : Form) (o : Options) (table : ℕ → ℕ → ℕ) (owner limit : ℕ) (ps : List Piece) (c : Committing) (h : History) (k : Known) (past : Past) (s : Side)
+module _ (f : Form) (o : Options) (table : ℕ → ℕ → ℕ) (owner : ℕ) (ps : List Piece) (c : Committing) (h : History) (k : Known) (past : Past) (s : Side)
     (S : IsSide f o owner ps (At.Committing c) k past s) where
   abbrev txn : Txn
   txn = S.own.txn
@@ -103,7 +103,7 @@ early : (f : Form) (c : Committing) (h : History) (r b : List ℕ) → form_of r
 early f (Preparing p) h r b form some third K = early_like f p.stage h r b form some third K
 early f (Finishing s) h r b form some third K = absurd (omega (arith, third))
 
-module _ (f : Form) (o : Options) (table : ℕ → ℕ → ℕ) (owner limit : ℕ) (ps rs : List Piece) (c : Committing) (h new : History) (k : Known) (past : Past) (s : Side)
+module _ (f : Form) (o : Options) (table : ℕ → ℕ → ℕ) (owner : ℕ) (ps rs : List Piece) (c : Committing) (h new : History) (k : Known) (past : Past) (s : Side)
     (S : IsSide f o owner ps (At.Committing c) k past s) (K : KnowsFile f (At.Committing c) h k) (M : MayTurn f table s (task_of (OnGroup Commit) (commit_steps c))) where
   abbrev has_txn : Txn
   has_txn = S.own.txn
@@ -120,7 +120,7 @@ module _ (f : Form) (o : Options) (table : ℕ → ℕ → ℕ) (owner limit : �
 
   module _ (turn : CommitTurn) (locks : Locks turn) where
     row_turned : RowTurned false (commit_row c has_txn.numbered) start_held owner steps ps rs (commit_turn turn)
-    row_turned = locks has_txn.numbered S.own.numbered (holds_row f o table owner limit ps c h k past s S)
+    row_turned = locks has_txn.numbered S.own.numbered (holds_row f o table owner ps c h k past s S)
 
     alone : (IsBlocked (commit_turn turn) → ⊥) × IsAlone owner rs
     alone = alone_goes false (commit_row c has_txn.numbered) start_held owner steps ps rs (commit_turn turn) (of_commit c has_txn.numbered) S.alone row_turned
@@ -170,7 +170,7 @@ module _ (f : Form) (o : Options) (table : ℕ → ℕ → ℕ) (owner limit : �
     }
 
   -- a step leads to the next stage
-  stepped : (next : Committing) → Locks (Step next) → CommitLeads c (Step next) → CommitMade limit k.file k.image h new c (Step next) → Goal (Step next)
+  stepped : (next : Committing) → Locks (Step next) → CommitLeads c (Step next) → CommitMade k.file k.image h new c (Step next) → Goal (Step next)
   stepped next locks leads made = by_last (commit_steps c == 7) refl
     where
       turned : (b : Bool) → (commit_steps c == 7) ≡ b → let after = known_by k b in
@@ -236,7 +236,7 @@ module _ (f : Form) (o : Options) (table : ℕ → ℕ → ℕ) (owner limit : �
   finds_same (planned third) found change = found third
   finds_same (shut is) found change = sym (K.at.1 (let all = ap commit_steps is in omega (arith, all)))
 
-  rests : CanEnd c → CommitMade limit k.file k.image h new c Done → RestsLike f new k.file
+  rests : CanEnd c → CommitMade k.file k.image h new c Done → RestsLike f new k.file
   rests (unchanged none is) made =
       subst (λ d. RestsLike f d k.file) (sym made.0) (rests_like f h k.file K.forms.0 (subst (λ d. KnowsCommit d h k.file k.image) is K.at.0))
   rests (planned third) made = elim (going c) [
@@ -247,12 +247,12 @@ module _ (f : Form) (o : Options) (table : ℕ → ℕ → ℕ) (owner limit : �
       let last : commit_steps c ≡ 8 = ap commit_steps is in
       subst (RestsLike f new) (sym (K.at.1 (omega (arith, last)))) (shut_like f new k.image K.forms.1 (made.2 last))
 
-  pub commit_turned : (turn : CommitTurn) → Locks turn → CommitLeads c turn → CommitMade limit k.file k.image h new c turn → Goal turn
+  pub commit_turned : (turn : CommitTurn) → Locks turn → CommitLeads c turn → CommitMade k.file k.image h new c turn → Goal turn
   commit_turned (Step next) locks leads made = stepped next locks leads made
   commit_turned (Blocked other byte again) locks leads made = absurd ((alone (Blocked other byte again) locks).0 tt)
   commit_turned (Full len need) locks leads made =
-      over (Full len need) locks (Reply.Full len need) refl leads (λ ends. absurd (cc ends)) made.0
-      (subst (λ d. RestsLike f d k.file) (sym made.0) (early f c h k.file k.image K.forms.0 leads.0 (let third = leads.1 in omega (arith, third)) K.at.0))
+      over (Full len need) locks (Reply.Full len need) refl leads (λ ends. absurd (cc ends)) made
+      (subst (λ d. RestsLike f d k.file) (sym made) (early f c h k.file k.image K.forms.0 leads.0 (let third = leads.1 in omega (arith, third)) K.at.0))
   commit_turned Memory locks leads made =
       over Memory locks Reply.Memory refl leads (λ ends. absurd (cc ends)) made
       (subst (λ d. RestsLike f d k.file) (sym made) (early f c h k.file k.image K.forms.0 leads.0 (let third = leads.1 in omega (arith, third)) K.at.0))

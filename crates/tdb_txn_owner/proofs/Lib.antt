@@ -18,6 +18,7 @@ pub mod Waiting
 pub mod Resting
 pub mod PlanStages
 pub mod Rows
+pub mod Room
 pub mod Synced
 pub mod Sided
 pub mod ReadAs

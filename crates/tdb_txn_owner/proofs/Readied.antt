@@ -128,7 +128,7 @@ late_changed (Locked txn) late = refl
 late_changed (Planned state) late = refl
 late_changed (Filled state) late = refl
 
-module _ (f : Form) (o : Options) (table : ℕ → ℕ → ℕ) (owner limit : ℕ) (ps rs : List Piece) (p : Preparing) (h new : History) (k : Known) (past : Past) (s : Side)
+module _ (f : Form) (o : Options) (table : ℕ → ℕ → ℕ) (owner : ℕ) (ps rs : List Piece) (p : Preparing) (h new : History) (k : Known) (past : Past) (s : Side)
     (S : IsSide f o owner ps (At.Preparing p) k past s) (K : KnowsFile f (At.Preparing p) h k) (M : MayTurn f table s (task_of (OnGroup Prepare) (prepare_steps p))) where
   abbrev txn : Txn
   txn = S.own.txn
@@ -180,7 +180,7 @@ module _ (f : Form) (o : Options) (table : ℕ → ℕ → ℕ) (owner limit : �
         rests (Ends r) = λ some. refl
 
   -- a step leads to the next stage
-  stepped : (next : Preparing) → Locks (To.Step next) → PrepareLeads p (To.Step next) → PrepareMade limit k.file k.image h new p (To.Step next) → Goal (To.Step next)
+  stepped : (next : Preparing) → Locks (To.Step next) → PrepareLeads p (To.Step next) → PrepareMade k.file k.image h new p (To.Step next) → Goal (To.Step next)
   stepped next locks leads made = record {
     known = k;
     later = past;
@@ -267,7 +267,7 @@ module _ (f : Form) (o : Options) (table : ℕ → ℕ → ℕ) (owner limit : �
     | inr none ↦ absurd (let first = none.0 in omega (arith, third, first))
   ]
 
-  pub prepare_turned : (turn : PrepareTurn) → Locks turn → PrepareLeads p turn → PrepareMade limit k.file k.image h new p turn → Goal turn
+  pub prepare_turned : (turn : PrepareTurn) → Locks turn → PrepareLeads p turn → PrepareMade k.file k.image h new p turn → Goal turn
   prepare_turned (To.Step next) locks leads made = stepped next locks leads made
   prepare_turned (To.Blocked other byte again) locks leads made = absurd ((alone (To.Blocked other byte again) locks).0 tt)
   prepare_turned To.Nothing locks leads made =
@@ -287,7 +287,7 @@ module _ (f : Form) (o : Options) (table : ℕ → ℕ → ℕ) (owner limit : �
         turned = T;
       }
   prepare_turned (To.Full len need) locks leads made =
-      over (To.Full len need) locks (Reply.Full len need) refl refl leads refl made.0 (subst (λ d. RestsLike f d k.file) (sym made.0) (planning_before leads))
+      over (To.Full len need) locks (Reply.Full len need) refl refl leads refl made (subst (λ d. RestsLike f d k.file) (sym made) (planning_before leads))
   prepare_turned To.Memory locks leads made =
       over To.Memory locks Reply.Memory refl refl leads refl made
       (subst (λ d. RestsLike f d k.file) (sym made) (early_like f p.stage h k.file k.image K.forms.0 leads.0 (let early = leads.1 in omega (arith, early)) K.at))

@@ -12,4 +12,5 @@ pub mod Prepared
 pub mod Wanting
 pub mod Holders
 pub mod Syncs
+pub mod Room
 pub mod ButRoom

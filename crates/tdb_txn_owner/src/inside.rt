@@ -11,11 +11,13 @@ ghost use Rattle.tdb_txn.specs.Committing.{MayCommit};
 ghost use Rattle.tdb_txn.specs.Txn.{txn_depth, txn_doomed, txn_size, txn_start};
 ghost use Rattle.tdb_txn_turns.specs.Prepares.{begun_with, KeepsWithin, KnowsStage, MayPlan};
 ghost use Rattle.tdb_txn_turns.specs.declared.committing.Committing.TheVariants as Committing;
+ghost use Rattle.tdb_commands.specs.InLaw.{law_turn};
 ghost use Rattle.tdb_commands.specs.declared.command.Command.TheVariants as Command;
 ghost use Rattle.tdb_txn_owner.specs.declared.stage.Stage.TheVariants as Stage;
 ghost use Rattle.tdb_txn_owner.specs.Given.{IsInside};
 ghost use Rattle.tdb_txn_owner.specs.Stages.{Known, CommandFits, IsFit, IsFitLeft, KnowsFile};
 ghost use Rattle.tdb_txn_owner.specs.Open.{OpenFits};
+ghost use Rattle.tdb_txn_owner.specs.Room.{GrantedFull};
 ghost use Rattle.tdb_txn_owner.specs.Wanting.{RecordsGo, StepGoesOn};
 ghost use Rattle.tdb_txn_owner.specs.Wents.{TurnsFrom};
 ghost use Rattle.tdb_txn_owner.specs.Syncs.{HolderSyncs};
@@ -269,6 +271,7 @@ fn stay_turn<D: Disk>(
     requires chains { 0 < header.now.hash_size }
     requires limit { options.now.limit ≤ 4294963200 }
     ensures turned { IfOk result (λ went. IsTrue D.tells → (owner : ℕ) (ps : List Piece) → TurnsFrom (form_in header.now) options.now owner ps ps (Stage.Open txn (Some command)) went (D.history d.old) (D.history d.new)) }
+    ensures full { IfOk result (λ went. IsTrue D.tells → GrantedFull options.now txn (seen (D.history d.old)) command (law_turn went.turn)) }
     ensures fits { IfOk result (λ went. IsFitLeft went.stage header.now options.now.limit (D.size d.new)) }
     ensures records { IfOk result (λ went. RecordsGo (Stage.Open txn (Some command)) went.turn went.stage) }
     ensures goes_on { IfOk result (λ went. StepGoesOn went.turn went.stage) }
@@ -299,6 +302,7 @@ fn outer_turn<D: Disk>(
     requires chains { 0 < header.now.hash_size }
     requires limit { options.now.limit ≤ 4294963200 }
     ensures turned { IfOk result (λ went. IsTrue D.tells → TurnsFrom (form_in header.now) options.now owner locks.old locks.new (Stage.Open txn (Some command)) went (D.history d.old) (D.history d.new)) }
+    ensures full { IfOk result (λ went. IsTrue D.tells → GrantedFull options.now txn (seen (D.history d.old)) command (law_turn went.turn)) }
     ensures fits { IfOk result (λ went. IsFitLeft went.stage header.now options.now.limit (D.size d.new)) }
     ensures length { OnOk result (KeepsWithin options.now.limit (D.size d.old) (D.size d.new)) }
     ensures records { IfOk result (λ went. RecordsGo (Stage.Open txn (Some command)) went.turn went.stage) }
@@ -334,6 +338,7 @@ fn inner_turn<D: Disk>(
     requires chains { 0 < header.now.hash_size }
     requires limit { options.now.limit ≤ 4294963200 }
     ensures turned { IfOk result (λ went. IsTrue D.tells → TurnsFrom (form_in header.now) options.now owner locks.old locks.new (Stage.Open txn (Some command)) went (D.history d.old) (D.history d.new)) }
+    ensures full { IfOk result (λ went. IsTrue D.tells → GrantedFull options.now txn (seen (D.history d.old)) command (law_turn went.turn)) }
     ensures fits { IfOk result (λ went. IsFitLeft went.stage header.now options.now.limit (D.size d.new)) }
     ensures length { OnOk result (KeepsWithin options.now.limit (D.size d.old) (D.size d.new)) }
     ensures records { IfOk result (λ went. RecordsGo (Stage.Open txn (Some command)) went.turn went.stage) }
@@ -368,6 +373,7 @@ pub(crate) fn open_turn<D: Disk>(
     requires chains { 0 < header.now.hash_size }
     requires limit { options.now.limit ≤ 4294963200 }
     ensures turned { IfOk result (λ went. IsTrue D.tells → TurnsFrom (form_in header.now) options.now owner locks.old locks.new (Stage.Open txn (Some command)) went (D.history d.old) (D.history d.new)) }
+    ensures full { IfOk result (λ went. IsTrue D.tells → GrantedFull options.now txn (seen (D.history d.old)) command (law_turn went.turn)) }
     ensures fits { IfOk result (λ went. IsFitLeft went.stage header.now options.now.limit (D.size d.new)) }
     ensures length { OnOk result (KeepsWithin options.now.limit (D.size d.old) (D.size d.new)) }
     ensures records { IfOk result (λ went. RecordsGo (Stage.Open txn (Some command)) went.turn went.stage) }

@@ -9,20 +9,22 @@ ghost use Rattle.tdb_space.specs.Pairs.{home};
 ghost use Rattle.tdb_locks.specs.HeldLocks.{nothing_held, total_of, AreCounts};
 ghost use Rattle.tdb_law.specs.Commands.Command.{OnMap, OnLocks, OnGroup, OnWalk, Seqnum};
 ghost use Rattle.tdb_law.specs.Commands.{GroupCommand};
+ghost use Rattle.tdb_law.specs.Commands.Turn.{Ends};
 ghost use Rattle.tdb_law.specs.Commands.GroupCommand.{Start, Commit, Cancel};
 ghost use Rattle.tdb_law.specs.Commands.MapCommand.{Check};
 ghost use Rattle.tdb_law.specs.Commands.LockCommand.{ChainLock, ChainLockNb};
 ghost use Rattle.tdb_law.specs.Openers.{Own};
 ghost use Rattle.tdb_law.specs.Refusals.{refusal, says};
-ghost use Rattle.tdb_txn_turns.specs.Laws.{Ends};
+ghost use Rattle.tdb_txn_turns.specs.Laws as Laws;
 ghost use Rattle.tdb_steps.specs.Machines.{IsShort};
 ghost use Rattle.tdb_steps.specs.PlainCommands.{command_of};
+ghost use Rattle.tdb_steps.specs.Room.{FullExactly};
 ghost use Rattle.tdb_txn.specs.Committing.{MayCommit};
 ghost use Rattle.tdb_txn.specs.Txn.{txn_depth, txn_doomed, SameView};
 ghost use Rattle.tdb_walk.specs.Cursors.{rested};
 ghost use Rattle.tdb_walk.specs.declared.standing.Standing.TheVariants.{Past};
 ghost use Rattle.tdb_txn_turns.specs.InsideTxn.Counted.{lock_all_of};
-ghost use Rattle.tdb_txn_turns.specs.InsideTxn.OwnTxns.{form_of};
+ghost use Rattle.tdb_txn_turns.specs.InsideTxn.OwnTxns.{form_of, image_of};
 ghost use Rattle.tdb_txn_turns.specs.InsideTxn.Walks.{command_for, IsEntered, RestsInside};
 ghost use Rattle.tdb_commands.specs.InLaw.{law_command, law_reply};
 ghost use Rattle.tdb_txn_owner.specs.Given.{IsInside, IsLocking, IsMapped, IsPlainInside};
@@ -74,6 +76,7 @@ fn plain_of(command: Command) -> Plain
 
 impl OpenTxn {
     ghost use Rattle.tdb_txn_owner.specs.Open.{GoesOn, HasOpen, OpenFits};
+    ghost use Rattle.tdb_txn_owner.specs.Room.{FullInside, GrantedFull};
 
     /// A transaction that has just begun: nothing is counted in it, and its opener has no cursor. It takes no memory.
     pub(crate) fn new(alloc: Global, own: OwnTxn) -> OpenTxn
@@ -123,7 +126,7 @@ impl OpenTxn {
     /// if it does.
     pub(crate) fn end_refusal(&self) -> Option<Reply>
         requires { txn_depth self.now.own.txn ≡ 0 }
-        ensures told { (f : Form) (o : Options) (base : List ℕ) (x : Own) (g : GroupCommand) → Ends g → HasOpen o self.now base x
+        ensures told { (f : Form) (o : Options) (base : List ℕ) (x : Own) (g : GroupCommand) → Laws.Ends g → HasOpen o self.now base x
             → option_map law_reply result ≡ option_map (says x) (refusal f (OnGroup g) x) }
         ensures whole { result ≡ None → txn_doomed self.now.own.txn ≡ false }
         ensures unlocked { result ≡ None → nat_lt 0 (total_of self.now.held) ≡ false }
@@ -212,6 +215,8 @@ impl OpenTxn {
         requires fits { OpenFits self.old header.now limit (D.size d.old) }
         ensures turned { IfOk result (λ reply. IsTrue D.tells → (o : Options) (x : Own) → let base = seen (D.history d.old) in HasOpen o self.old base x → RestsInside self.old.own base self.old.walk → MayCommit self.old.own.txn base
             → refusal (form_of self.old.own) (OnMap (command_of command)) x ≡ None → GoesOn o self.old self.new base x (OnMap (command_of command)) (law_reply reply)) }
+        ensures full { IfOk result (λ reply. IsTrue D.tells → let base = seen (D.history d.old) in MayCommit self.old.own.txn base
+            → FullExactly (form_of self.old.own) (image_of self.old.own base) limit (OnMap (command_of command)) (Ends (law_reply reply))) }
         ensures commits { OnOk result (IsTrue D.tells → let base = seen (D.history d.old) in MayCommit self.old.own.txn base → MayCommit self.new.own.txn base) }
         ensures numbered { self.new.own.numbered ≡ self.old.own.numbered }
         ensures fits { OpenFits self.new header.now limit (D.size d.new) }
@@ -338,6 +343,7 @@ impl OpenTxn {
         requires fits { OpenFits self.old header.now limit (D.size d.old) }
         ensures turned { IfOk result (λ reply. IsTrue D.tells → (o : Options) (x : Own) → let base = seen (D.history d.old) in HasOpen o self.old base x → RestsInside self.old.own base self.old.walk → MayCommit self.old.own.txn base
             → refusal (form_of self.old.own) (law_command command) x ≡ None → GoesOn o self.old self.new base x (law_command command) (law_reply reply)) }
+        ensures full { IfOk result (λ reply. IsTrue D.tells → FullInside self.old (seen (D.history d.old)) limit command (Ends (law_reply reply))) }
         ensures commits { OnOk result (IsTrue D.tells → let base = seen (D.history d.old) in RestsInside self.old.own base self.old.walk → MayCommit self.old.own.txn base → MayCommit self.new.own.txn base) }
         ensures numbered { self.new.own.numbered ≡ self.old.own.numbered }
         ensures fits { OpenFits self.new header.now limit (D.size d.new) }
@@ -384,6 +390,7 @@ impl OpenTxn {
         requires fits { OpenFits self.old header.now options.now.limit (D.size d.old) }
         ensures turned { IfOk result (λ reply. IsTrue D.tells → (x : Own) → let base = seen (D.history d.old) in HasOpen options.now self.old base x → RestsInside self.old.own base self.old.walk → MayCommit self.old.own.txn base
             → GoesOn options.now self.old self.new base x (law_command command) (law_reply reply)) }
+        ensures full { IfOk result (λ reply. IsTrue D.tells → GrantedFull options.now self.old (seen (D.history d.old)) command (Ends (law_reply reply))) }
         ensures commits { OnOk result (IsTrue D.tells → let base = seen (D.history d.old) in RestsInside self.old.own base self.old.walk → MayCommit self.old.own.txn base → MayCommit self.new.own.txn base) }
         ensures numbered { self.new.own.numbered ≡ self.old.own.numbered }
         ensures fits { OpenFits self.new header.now options.now.limit (D.size d.new) }

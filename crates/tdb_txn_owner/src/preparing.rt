@@ -8,6 +8,7 @@ ghost use Rattle.tdb_space.specs.Undoing.{Reopens};
 ghost use Rattle.tdb_law.specs.Openers.{Task};
 ghost use Rattle.tdb_law.specs.OneAside.Sides.{Past, Side};
 ghost use Rattle.tdb_txn_turns.specs.Prepares.{KeepsWithin, KnowsStage, StageFits};
+ghost use Rattle.tdb_txn_turns.specs.Room.{PrepareFull};
 ghost use Rattle.tdb_commands.specs.InLaw.{law_turn};
 ghost use Rattle.tdb_commands.specs.declared.options.Options.{Options};
 ghost use Rattle.tdb_txn_owner.specs.declared.stage.Stage.TheVariants as Stage;
@@ -71,6 +72,7 @@ pub(crate) fn prepare_turn<D: Disk>(
     ensures turned { IfOk result (λ went. IsTrue D.tells → (f : Form) (o : Options) (table : ℕ → ℕ → ℕ) (k : Known) (past : Past) (s : Side) (t : Task) → let stage = Stage.Preparing preparing in
         IsSide f o owner locks.old stage k past s → KnowsFile f stage (D.history d.old) k → stage_task stage ≡ Some t → MayTurn f table s t
         → StageTurned f o table owner locks.new stage went.stage (D.history d.old) (D.history d.new) k past s t (law_turn went.turn)) }
+    ensures full { IfOk result (λ went. IsTrue D.tells → (r b : List ℕ) → KnowsStage preparing.stage (D.history d.old) r b → PrepareFull preparing.stage limit r (law_turn went.turn)) }
     ensures fits { IfOk result (λ went. (h : Header) → IsFitLeft went.stage h limit (D.size d.new)) }
     ensures length { OnOk result (KeepsWithin limit (D.size d.old) (D.size d.new)) }
     ensures records { IfOk result (λ went. RecordsGo (Stage.Preparing preparing) went.turn went.stage) }

@@ -25,6 +25,7 @@ ghost use Rattle.tdb_commands.specs.Short.{IsShortCommand};
 ghost use Rattle.tdb_txn_owner.specs.Holders.{is_idle, left_stage, stage_depth, stage_gate, with_command, HolderTurned, StageMayLeave};
 ghost use Rattle.tdb_txn_owner.specs.Stages.{is_closing, stage_records, stage_task, Known, IsFit, IsFitLeft, IsSide, KnowsFile, MayBeGiven};
 ghost use Rattle.tdb_txn_owner.specs.Turned.{BeginsOn, MayTurn, StageTurned};
+ghost use Rattle.tdb_txn_owner.specs.Room.{StageFull};
 ghost use Rattle.tdb_txn_owner.specs.Syncs.{HolderSyncs};
 ghost use Rattle.tdb_txn_owner.specs.Wanting.{records_at, stage_wants, wanted_by, RecordsGo, StepGoesOn};
 
@@ -138,6 +139,9 @@ fn stage_turn<D: Disk>(
     ensures turned { IfOk result (λ went. IsTrue D.tells → (table : ℕ → ℕ → ℕ) (k : Known) (past : Past) (s : Side) (t : Task) → let f = form_in header.now in
         IsSide f options.now owner locks.old stage k past s → KnowsFile f stage (D.history d.old) k → BeginsOn f stage k.file → stage_task stage ≡ Some t → MayTurn f table s t
         → StageTurned f options.now table owner locks.new stage went.stage (D.history d.old) (D.history d.new) k past s t (law_turn went.turn)) }
+    ensures full { IfOk result (λ went. IsTrue D.tells → (table : ℕ → ℕ → ℕ) (k : Known) (past : Past) (s : Side) (t : Task) → let f = form_in header.now in
+        IsSide f options.now owner locks.old stage k past s → KnowsFile f stage (D.history d.old) k → BeginsOn f stage k.file → stage_task stage ≡ Some t → MayTurn f table s t
+        → StageFull f options.now.limit stage k s.own (law_turn went.turn)) }
     ensures fits { IfOk result (λ went. IsFitLeft went.stage header.now options.now.limit (D.size d.new)) }
     ensures length { OnOk result (KeepsWithin options.now.limit (D.size d.old) (D.size d.new)) }
     ensures records { IfOk result (λ went. RecordsGo stage went.turn went.stage) }
@@ -353,6 +357,12 @@ impl TxnOwner {
     }
 
     /// Takes one turn of its command on a file with this header. `Io` where the disk failed: then it is given up.
+    ///
+    /// `Full` comes where there is no room up to the limit, and there it comes unless memory is wanting. Inside the
+    /// transaction it is that of the transaction's image for what a command stores: the record of the key isn't updated
+    /// in place, no free record is long enough, and a new one, of `need` bytes with its header, behind the `len` bytes of
+    /// the image passes the limit. At the third turn of a Commit or a Prepare it is that of the file for a new undo area
+    /// of `need` bytes, behind the `len` bytes of the image, where one is wanted. No other turn ends with `Full`.
     pub fn turn<D: Disk>(
         self,
         alloc: Global,
@@ -369,6 +379,9 @@ impl TxnOwner {
             → HolderTurned f options.now table self moved.holder (D.history d.old) (D.history d.new) k past s t (law_turn moved.turn)) }
         ensures blocked { IfOk result (λ moved. IsTrue D.tells → (k : Known) (past : Past) (s : Side) → let f = form_in header.now in
             IsSide f options.now self.owner self.locks self.stage k past s → KnowsFile f self.stage (D.history d.old) k → BeginsOn f self.stage k.file → IsBlocked (law_turn moved.turn) → ⊥) }
+        ensures full { IfOk result (λ moved. IsTrue D.tells → (k : Known) (past : Past) (s : Side) → let f = form_in header.now in
+            IsSide f options.now self.owner self.locks self.stage k past s → KnowsFile f self.stage (D.history d.old) k → BeginsOn f self.stage k.file
+            → StageFull f options.now.limit self.stage k s.own (law_turn moved.turn)) }
         ensures fits { IfOk result (λ moved. IsFitLeft (left_stage moved.holder) header.now options.now.limit (D.size d.new)) }
         ensures length { OnOk result (KeepsWithin options.now.limit (D.size d.old) (D.size d.new)) }
         ensures owner { IfOk result (λ moved. IfSome moved.holder (λ h. h.owner ≡ self.owner)) }

@@ -7,6 +7,7 @@ use Rattle.tdb_txn_owner.specs.declared.stage.Stage.TheVariants as Stage
 use Rattle.tdb_txn_owner.specs.Wents.{TurnsFrom}
 use Rattle.tdb_txn_owner.proofs.OpenEnds.{open_stops}
 use Rattle.tdb_txn_owner.proofs.Opened.{stays_inner, weaker}
+use Rattle.tdb_txn_owner.specs.Given.{IsMapped}
 use Rattle.tdb_txn_owner.proofs.inside.inner_turn.Goals as goal
 
 pub returns-in-Close-clause-turned : goal.returns-in-Close-clause-turned
@@ -31,3 +32,6 @@ returns-in_default-clause-stops g c told k K =
 
 pub stay_turn-requires-clause-inside : goal.stay_turn-requires-clause-inside
 stay_turn-requires-clause-inside g c = stays_inner c.args.command _ c.in_default.not-Close c.requires.inner c.requires.fits.1.1
+
+pub returns-in-Close-clause-full : goal.returns-in-Close-clause-full
+returns-in-Close-clause-full g c told x H R M mapped = absurd (subst IsMapped c.in-Close.is mapped)

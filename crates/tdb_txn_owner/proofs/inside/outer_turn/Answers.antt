@@ -9,6 +9,8 @@ use Rattle.tdb_txn_owner.specs.Wents.{TurnsFrom}
 use Rattle.tdb_txn_owner.proofs.OpenEnds.{open_stops}
 use Rattle.tdb_txn_owner.proofs.Opened.{stays_outer, weaker}
 use Rattle.tdb_txn_owner.specs.Wanting.{RecordsGo}
+use Rattle.tdb_txn_owner.specs.Given.{IsMapped}
+use Rattle.tdb_txn_owner.proofs.Room.{every}
 use Rattle.tdb_txn_owner.proofs.inside.outer_turn.Goals as goal
 
 pub returns-in-Close-clause-turned : goal.returns-in-Close-clause-turned
@@ -84,3 +86,16 @@ returns-in-Commit-clause-records g c =
 pub returns-in-Prepare-clause-records : goal.returns-in-Prepare-clause-records
 returns-in-Prepare-clause-records g c =
     subst (λ k. IfOk c.prepare_outer.result (λ went. RecordsGo (Stage.Open c.args.txn (Some k)) went.turn went.stage)) (sym c.in-Prepare.is) c.prepare_outer.ensures.records
+
+-- Full, of a command on the map
+pub returns-in-Close-clause-full : goal.returns-in-Close-clause-full
+returns-in-Close-clause-full g c told x H R M mapped = absurd (subst IsMapped c.in-Close.is mapped)
+
+pub returns-in-Cancel-clause-full : goal.returns-in-Cancel-clause-full
+returns-in-Cancel-clause-full g c told x H R M mapped = absurd (subst IsMapped c.in-Cancel.is mapped)
+
+pub returns-in-Commit-clause-full : goal.returns-in-Commit-clause-full
+returns-in-Commit-clause-full g c = every c.commit_outer.result _ (λ went told x H R M mapped. absurd (subst IsMapped c.in-Commit.is mapped))
+
+pub returns-in-Prepare-clause-full : goal.returns-in-Prepare-clause-full
+returns-in-Prepare-clause-full g c = every c.prepare_outer.result _ (λ went told x H R M mapped. absurd (subst IsMapped c.in-Prepare.is mapped))

@@ -16,6 +16,8 @@ use Rattle.tdb_txn_owner.proofs.OpenTurns.{stays_turned}
 use Rattle.tdb_txn_owner.proofs.Sided.{same_task}
 use Rattle.tdb_txn_owner.proofs.OpenEnds.{stay_records}
 use Rattle.tdb_txn_owner.specs.Wanting.{RecordsGo}
+use Rattle.tdb_disk.specs.History.{seen}
+use Rattle.tdb_txn_owner.specs.Room.{GrantedFull}
 use Rattle.tdb_txn_owner.proofs.inside.stay_turn.Goals as goal
 
 pub returns-clause-turned : goal.returns-clause-turned
@@ -47,3 +49,8 @@ pub returns-clause-records : goal.returns-clause-records
 returns-clause-records g c =
     let a = c.args in
     subst (λ went. RecordsGo (Stage.Open a.txn (Some a.command)) went.turn went.stage) (sym c.on.ensures) (sym (stay_records a.txn a.command c.requires.inside))
+
+pub returns-clause-full : goal.returns-clause-full
+returns-clause-full g c told =
+    let a = c.args in
+    subst (λ went. GrantedFull a.options.now a.txn (seen (g.D.Disk.history a.d.now)) a.command (law_turn went.turn)) (sym c.on.ensures) (c.in_ok-reply.ensures.full told)

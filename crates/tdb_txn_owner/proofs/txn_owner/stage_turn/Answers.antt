@@ -7,9 +7,12 @@ use Rattle.tdb_space.specs.Form.{Form, form_in}
 use Rattle.tdb_txn.specs.Committing.{MayCommit}
 use Rattle.tdb_txn_owner.specs.declared.stage.Stage.TheVariants as Stage
 use Rattle.tdb_txn_owner.specs.Holders.{StageMayLeave}
+use Rattle.tdb_txn_turns.specs.Starts.{start_steps}
+use Rattle.tdb_commands.specs.InLaw.{law_turn}
 use Rattle.tdb_txn_owner.specs.Stages.{IsFit, KnowsFile}
 use Rattle.tdb_txn_owner.proofs.HolderTurns.{open_form, TurnsAt}
-use Rattle.tdb_txn_owner.proofs.Opened.{weaker}
+use Rattle.tdb_txn_owner.proofs.Opened.{weaker, weaker_with}
+use Rattle.tdb_txn_owner.proofs.Room.{open_stage, prepared_spares, start_spares, turned_never, FullsAt}
 use Rattle.tdb_txn_owner.proofs.txn_owner.stage_turn.Goals as goal
 
 pub returns-in-Open-clause-stops : goal.returns-in-Open-clause-stops
@@ -71,3 +74,61 @@ returns-in-Preparing-clause-turned g c =
     weaker c.prepare_turn.result _ _
     (λ went turn told. subst (λ stage. TurnsAt f o a.owner a.locks.now c.prepare_turn.new.locks stage (g.D.Disk.history a.d.now) (g.D.Disk.history c.prepare_turn.new.d) went) (sym c.in-Preparing.is)
     (λ table k past s t S K begins has M. turn told f o table k past s t S K has M)) c.prepare_turn.ensures.turned
+
+-- Full, as each stage's own function tells it, or by the law, where no command may end so
+pub returns-in-Starting-clause-full : goal.returns-in-Starting-clause-full
+returns-in-Starting-clause-full g c =
+    let a = c.args in
+    let f = form_in a.header.now in
+    let o = a.options.now in
+    weaker c.start_turn.result _ _
+    (λ went turn told. subst (λ stage. FullsAt f o a.owner a.locks.now stage (g.D.Disk.history a.d.now) (law_turn went.turn)) (sym c.in-Starting.is)
+    (λ table k past s t S K begins has M. let T = turn told table k past s t S K begins has M in
+    turned_never f table _ _ _ _ _ _ _ _ t (law_turn went.turn) T.turned (start_spares f (start_steps c.in-Starting.starting) s.own t has))) c.start_turn.ensures.turned
+
+pub returns-in-Open-clause-full : goal.returns-in-Open-clause-full
+returns-in-Open-clause-full g c =
+    let a = c.args in
+    let f = form_in a.header.now in
+    let o = a.options.now in
+    let h = g.D.Disk.history a.d.now in
+    let txn = c.in-Open.txn in
+    let command = c.given-command.result in
+    weaker_with c.open_turn.result _ _ _
+    (λ went turn full told. subst (λ stage. FullsAt f o a.owner a.locks.now stage h (law_turn went.turn)) (sym (c.in-Open.is ∙ ap (Stage.Open txn) c.given-command.ensures))
+    (open_stage f o a.owner a.locks.now c.open_turn.new.locks txn command h (g.D.Disk.history c.open_turn.new.d) went (turn told) (full told))) c.open_turn.ensures.turned c.open_turn.ensures.full
+
+pub returns-in-Committing-clause-full : goal.returns-in-Committing-clause-full
+returns-in-Committing-clause-full g c =
+    let a = c.args in
+    weaker c.commit_turn.result _ _
+    (λ went full told. subst (λ stage. FullsAt (form_in a.header.now) a.options.now a.owner a.locks.now stage (g.D.Disk.history a.d.now) (law_turn went.turn)) (sym c.in-Committing.is)
+    (λ table k past s t S K begins has M. full told k.file k.image K.at.0)) c.commit_turn.ensures.full
+
+pub returns-in-Preparing-clause-full : goal.returns-in-Preparing-clause-full
+returns-in-Preparing-clause-full g c =
+    let a = c.args in
+    weaker c.prepare_turn.result _ _
+    (λ went full told. subst (λ stage. FullsAt (form_in a.header.now) a.options.now a.owner a.locks.now stage (g.D.Disk.history a.d.now) (law_turn went.turn)) (sym c.in-Preparing.is)
+    (λ table k past s t S K begins has M. full told k.file k.image K.at)) c.prepare_turn.ensures.full
+
+pub returns-in-Prepared-clause-full : goal.returns-in-Prepared-clause-full
+returns-in-Prepared-clause-full g c =
+    let a = c.args in
+    let f = form_in a.header.now in
+    let o = a.options.now in
+    let is = c.in-Prepared.is ∙ ap (Stage.Prepared c.in-Prepared.left) c.given-command-in-Prepared.ensures in
+    weaker c.prepared_turn.result _ _
+    (λ went turn told. subst (λ stage. FullsAt f o a.owner a.locks.now stage (g.D.Disk.history a.d.now) (law_turn went.turn)) (sym is)
+    (λ table k past s t S K begins has M. let T = turn told table k past s t S K has M in let O = S.own.has in
+    turned_never f table _ _ _ _ _ _ _ _ t (law_turn went.turn) T.turned (prepared_spares f s.own S.own.txn _ O.outer.has O.outer.outer O.prepared_is t.command))) c.prepared_turn.ensures.turned
+
+pub returns-in-Finishing-clause-full : goal.returns-in-Finishing-clause-full
+returns-in-Finishing-clause-full g c =
+    let a = c.args in
+    let f = form_in a.header.now in
+    let o = a.options.now in
+    weaker c.finish_turn.result _ _
+    (λ went turn told. subst (λ stage. FullsAt f o a.owner a.locks.now stage (g.D.Disk.history a.d.now) (law_turn went.turn)) (sym c.in-Finishing.is)
+    (λ table k past s t S K begins has M. let T = turn told f o table k past s t S K has M in let O = S.own.has in
+    turned_never f table _ _ _ _ _ _ _ _ t (law_turn went.turn) T.turned (prepared_spares f s.own S.own.txn 4 O.outer.has O.outer.outer O.prepared_is t.command))) c.finish_turn.ensures.turned

@@ -1,13 +1,17 @@
 -- Each command is what does it.
-use Rattle.std.proofs.Common.{◌≡◌, None, sym, subst}
+use Rattle.std.proofs.Common.{◌≡◌, None, sym, subst, inl, inr}
 use Rattle.tdb_disk.specs.History.{seen}
 use Rattle.tdb_law.specs.Commands.Command.{OnMap}
 use Rattle.tdb_law.specs.Refusals.{refusal}
 use Rattle.tdb_steps.specs.PlainCommands.{command_of}
-use Rattle.tdb_txn_turns.specs.InsideTxn.OwnTxns.{form_of}
+use Rattle.tdb_txn_turns.specs.InsideTxn.OwnTxns.{form_of, image_of}
 use Rattle.tdb_commands.specs.InLaw.{law_command, law_reply}
 use Rattle.tdb_commands.specs.declared.command.Command.TheVariants as Given
 use Rattle.tdb_txn_owner.proofs.Opened.{goes_as, goes_is, refused_as, weaker}
+use Rattle.tdb_law.specs.Commands.Turn.{Ends}
+use Rattle.tdb_steps.specs.Room.{FullExactly}
+use Rattle.tdb_txn_owner.specs.Given.{IsMapped}
+use Rattle.tdb_txn_owner.proofs.Room.{every}
 use Rattle.tdb_txn_owner.proofs.open_txn.OpenTxn.granted_turn.Goals as goal
 
 pub returns-in-Check-clause-turned : goal.returns-in-Check-clause-turned
@@ -74,3 +78,47 @@ returns-in_default-clause-turned g c =
     (λ reply turned told o x H Rest M R.
     goes_is o t c.run.new.self base x plain command (law_reply reply) c.plain_of.ensures.same
     (turned told o x H Rest M (subst (λ k. refusal (form_of t.own) k x ≡ None) (sym c.plain_of.ensures.same) R))) c.run.ensures.turned
+
+-- Full, of a command on the map
+pub returns-in-Check-clause-full : goal.returns-in-Check-clause-full
+returns-in-Check-clause-full g c = every c.check.result _ (λ reply told M mapped. absurd (subst IsMapped c.in-Check.is mapped))
+
+pub returns-in-Seqnum-clause-full : goal.returns-in-Seqnum-clause-full
+returns-in-Seqnum-clause-full g c = every c.sequence.result _ (λ reply told M mapped. absurd (subst IsMapped c.in-Seqnum.is mapped))
+
+pub returns-in-First-clause-full : goal.returns-in-First-clause-full
+returns-in-First-clause-full g c = every c.ask.result _ (λ reply told M mapped. absurd (subst IsMapped c.in-First.is mapped))
+
+pub returns-in-Next-clause-full : goal.returns-in-Next-clause-full
+returns-in-Next-clause-full g c = every c.ask-in-Next.result _ (λ reply told M mapped. absurd (subst IsMapped c.in-Next.is mapped))
+
+pub returns-in-EndWalk-clause-full : goal.returns-in-EndWalk-clause-full
+returns-in-EndWalk-clause-full g c = every c.ask-in-EndWalk.result _ (λ reply told M mapped. absurd (subst IsMapped c.in-EndWalk.is mapped))
+
+pub returns-in-ChainLock-clause-full : goal.returns-in-ChainLock-clause-full
+returns-in-ChainLock-clause-full g c told M mapped =
+    elim c.in-ChainLock.is [
+      | inl w ↦ absurd (subst IsMapped w.1 mapped)
+      | inr b ↦ elim b [
+        | inl w ↦ absurd (subst IsMapped w.1 mapped)
+        | inr d ↦ elim d [
+          | inl w ↦ absurd (subst IsMapped w.1 mapped)
+          | inr k ↦ elim k [
+            | inl e ↦ absurd (subst IsMapped e mapped)
+            | inr h ↦ elim h [ inl e ↦ absurd (subst IsMapped e mapped) | inr e ↦ absurd (subst IsMapped e mapped) ]
+          ]
+        ]
+      ]
+    ]
+
+pub returns-in-Start-clause-full : goal.returns-in-Start-clause-full
+returns-in-Start-clause-full g c told M mapped = absurd (subst IsMapped c.in-Start.is mapped)
+
+pub returns-in-Cancel-clause-full : goal.returns-in-Cancel-clause-full
+returns-in-Cancel-clause-full g c told M mapped = absurd (subst IsMapped c.in-Cancel.is mapped)
+
+pub returns-in_default-clause-full : goal.returns-in_default-clause-full
+returns-in_default-clause-full g c =
+    let t = c.args.self.now in
+    weaker c.run.result _ _
+    (λ reply full told M mapped. subst (λ k. FullExactly (form_of t.own) (image_of t.own (seen (g.D.Disk.history c.args.d.now))) c.args.limit k (Ends (law_reply reply))) c.plain_of.ensures.same (full told M)) c.run.ensures.full

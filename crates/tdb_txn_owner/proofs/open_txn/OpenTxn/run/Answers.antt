@@ -5,7 +5,9 @@ use Rattle.tdb_law.specs.Commands.Command.{OnMap}
 use Rattle.tdb_steps.specs.PlainCommands.{command_of}
 use Rattle.tdb_txn_turns.specs.InsideTxn.Walks.{with_cursor}
 use Rattle.tdb_txn_turns.proofs.InsideTxn.Fronts.{accepted_as}
-use Rattle.tdb_txn_owner.proofs.Opened.{goes_by, granted_as, starved, weaker_with}
+use Rattle.tdb_txn_owner.proofs.Opened.{goes_by, granted_as, starved, weaker, weaker_with}
+use Rattle.tdb_txn_turns.specs.InsideTxn.OwnTxns.{form_of, image_of}
+use Rattle.tdb_txn_owner.proofs.Room.{memory_full, reply_full}
 use Rattle.tdb_txn_owner.proofs.open_txn.OpenTxn.run.Goals as goal
 
 pub returns-in-Ok-clause-turned : goal.returns-in-Ok-clause-turned
@@ -25,3 +27,16 @@ returns-in-Err-clause-turned g c told o x H Rest M R =
     let t = c.args.self.now in
     let base = seen (g.D.Disk.history c.args.d.now) in
     starved o t base x (command_of c.args.command) H (accepted_as t.own.txn base M) R
+
+-- Full, as the transaction's own machine tells it
+pub returns-in-Ok-clause-full : goal.returns-in-Ok-clause-full
+returns-in-Ok-clause-full g c =
+    let t = c.args.self.now in
+    let base = seen (g.D.Disk.history c.args.d.now) in
+    weaker c.run.result _ _
+    (λ reply full told M. reply_full (form_of t.own) (image_of t.own base) c.args.limit (OnMap (command_of c.args.command)) reply (full told (accepted_as t.own.txn base M))) c.run.ensures.full
+
+pub returns-in-Err-clause-full : goal.returns-in-Err-clause-full
+returns-in-Err-clause-full g c told M =
+    let t = c.args.self.now in
+    memory_full (form_of t.own) (image_of t.own (seen (g.D.Disk.history c.args.d.now))) c.args.limit (OnMap (command_of c.args.command))

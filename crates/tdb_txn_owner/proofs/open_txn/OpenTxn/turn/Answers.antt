@@ -7,7 +7,7 @@ use Rattle.tdb_law.specs.Commands as Law
 use Rattle.tdb_law.specs.Refusals.{refusal}
 use Rattle.tdb_commands.specs.InLaw.{law_command, law_reply}
 use Rattle.tdb_commands.specs.declared.command.Command.TheVariants as Given
-use Rattle.tdb_txn_owner.specs.Given.{IsInside}
+use Rattle.tdb_txn_owner.specs.Given.{IsInside, IsMapped}
 use Rattle.tdb_txn_owner.specs.Open.{GoesOn}
 use Rattle.tdb_txn_owner.proofs.Opened.{goes_as, prepare_still, refused_still, stays_open, told_none, told_why, weaker}
 use Rattle.tdb_txn_owner.proofs.open_txn.OpenTxn.turn.Goals as goal
@@ -46,3 +46,21 @@ returns-in-None-clause-turned g c =
     turned told o x H Rest M
     (subst (λ form. refusal form command x ≡ None) c.requires.fits.header
     (told_none f x command (refusal f command x) refl (ap (option_map law_reply) (sym c.in-None.is) ∙ c.refusal.ensures base x H)))) c.granted_turn.ensures.turned
+
+-- Full, of a command on the map that isn't refused
+pub returns-in-Commit-clause-full : goal.returns-in-Commit-clause-full
+returns-in-Commit-clause-full g c told x H R M mapped = absurd (subst IsMapped c.in-Commit.is mapped)
+
+pub returns-in-Prepare-clause-full : goal.returns-in-Prepare-clause-full
+returns-in-Prepare-clause-full g c told x H R M mapped = absurd (subst IsMapped c.in-Prepare.is mapped)
+
+pub returns-in-Some-clause-full : goal.returns-in-Some-clause-full
+returns-in-Some-clause-full g c told x H R M mapped =
+    let f = form_in c.args.header.now in
+    let command = law_command c.args.command in
+    let why = told_why f x command c.in-Some.reply (refusal f command x) refl (ap (option_map law_reply) (sym c.in-Some.is) ∙ c.refusal.ensures (seen (g.D.Disk.history c.args.d.now)) x H) in
+    let refused = subst (λ form. refusal form command x ≡ Some why.0) c.requires.fits.header why.1 in
+    absurd (cc (sym R ∙ refused))
+
+pub returns-in-None-clause-full : goal.returns-in-None-clause-full
+returns-in-None-clause-full g c = weaker c.granted_turn.result _ _ (λ reply full told x H R M mapped. full told M mapped) c.granted_turn.ensures.full
