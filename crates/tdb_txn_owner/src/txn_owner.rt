@@ -358,11 +358,13 @@ impl TxnOwner {
 
     /// Takes one turn of its command on a file with this header. `Io` where the disk failed: then it is given up.
     ///
-    /// `Full` comes where there is no room up to the limit, and there it comes unless memory is wanting. Inside the
-    /// transaction it is that of the transaction's image for what a command stores: the record of the key isn't updated
-    /// in place, no free record is long enough, and a new one, of `need` bytes with its header, behind the `len` bytes of
-    /// the image passes the limit. At the third turn of a Commit or a Prepare it is that of the file for a new undo area
-    /// of `need` bytes, behind the `len` bytes of the image, where one is wanted. No other turn ends with `Full`.
+    /// `Full` comes only where there is no room up to the limit, and there it comes unless memory is wanting. Inside
+    /// the transaction it is that of the transaction's image for what a command stores: the record of the key isn't
+    /// updated in place, no free record is long enough, and a new one, of `need` bytes with its header, behind the
+    /// `len` bytes of the image passes the limit. At the third turn of a Commit or a Prepare it is that of the file for
+    /// a new undo area of `need` bytes, behind the `len` bytes of the image, where one is wanted; if the file has one
+    /// to be replaced, `Full` is sure only where none fits of those that may be wanted then. No other turn ends with
+    /// `Full`.
     pub fn turn<D: Disk>(
         self,
         alloc: Global,

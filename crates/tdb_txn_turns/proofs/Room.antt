@@ -1,6 +1,7 @@
 -- The turn that plans a commit ends with Full exactly where the plan has no room, and no other turn does.
-use Rattle.std.proofs.Common.{◌≡◌, ℕ, ◌+◌, ◌<◌, List, Bool, Err, refl, sym, ◌∙◌, ap, subst, inl, inr, arith}
+use Rattle.std.proofs.Common.{◌≡◌, ℕ, ◌+◌, ◌<◌, ◌⊎◌, List, Bool, Err, refl, sym, ◌∙◌, ap, subst, inl, inr, arith}
 use Rattle.tdb_disk.specs.History.{History}
+use Rattle.tdb_words.specs.Word.{word}
 use Rattle.tdb_space.specs.Extents.{Extent}
 use Rattle.tdb_space.specs.Form.{form_of}
 use Rattle.tdb_space.specs.Planned.{content_length}
@@ -10,6 +11,7 @@ use Rattle.tdb_law.specs.Commands.{Turn}
 use Rattle.tdb_law.specs.Commands.Reply.{Done, Full, Memory}
 use Rattle.tdb_law.specs.Commands.Turn.{Step, Blocked, Ends}
 use Rattle.tdb_txn.specs.Answered.{AnsweredRightly, ChangesNothing, WantsArea, first, other, PlannedFor, keeps, places}
+use Rattle.tdb_txn.specs.AreaRoom.{new_area_length}
 use Rattle.tdb_txn.specs.Committing.{MayKeep}
 use Rattle.tdb_txn.specs.Txn.{txn_image, txn_start}
 use Rattle.tdb_txn.specs.declared.planned.Plan.{Plan}
@@ -47,26 +49,51 @@ module _ (txn : Txn) (limit : ℕ) (r : List ℕ) where
   ready_not x b runs h plan W none (keeps e keep state) = kept_not x b runs e plan.runs W keep
   ready_not x b runs h plan W none (places y c wants long room state) = omega (arith, none y c plan.runs wants, long, room)
 
+  -- where the file has no undo area the one that is wanted has one content
+  one_first : (x b y c : List ℕ) (es fs : List Extent) → word (form_of r).order r 44 ≡ 0 → WantsArea txn r x b es → WantsArea txn r y c fs → es ≡ fs
+  one_first x b y c es fs absent (first zero same is changed) (first none like so others) = runs_one r (txn_image txn r) (txn_start txn) (0, 0) es fs changed others
+  one_first x b y c es fs absent (first zero same is changed) (other e too_much has others short replaced) = absurd (has.some absent)
+  one_first x b y c es fs absent (other e too_much has changed short replaced) W = absurd (has.some absent)
+
+  first_length : (len need : ℕ) (y c : List ℕ) (fs : List Extent) → word (form_of r).order r 44 ≡ 0 → HasNoArea txn limit r len need → WantsArea txn r y c fs → new_area_length (content_length fs) ≡ need
+  first_length len need y c fs absent N W =
+      ap (λ es. new_area_length (content_length es)) (one_first y c N.area.x N.area.b fs N.area.runs absent W N.area.wants) ∙ sym N.area.need_is
+
+  none_fits : (len need : ℕ) → word (form_of r).order r 44 ≡ 0 → HasNoArea txn limit r len need → NoneFits txn limit r
+  none_fits len need absent N y c fs W = omega (arith, N.area.past, N.area.len_is, first_length len need y c fs absent N W)
+
+  module _ (turn : Turn) (only : (len need : ℕ) → turn ≡ Ends (Full len need) → HasNoArea txn limit r len need)
+      (always : (len need : ℕ) → HasNoArea txn limit r len need → NoneFits txn limit r → ((l : ℕ) × (n : ℕ) × (turn ≡ Ends (Full l n))) ⊎ (turn ≡ Ends Memory)) where
+    pub as_planned : FullAsPlanned txn limit r turn
+    as_planned = record {
+      only = only;
+      always = always;
+      first = λ len need N absent. elim (always len need N (none_fits len need absent N)) [
+        | inl full ↦
+            let M = only full.0 full.1 full.2 in
+            let same : full.0 ≡ len = M.area.len_is ∙ sym N.area.len_is in
+            let more : full.1 ≡ need = M.area.need_is ∙ first_length len need M.area.x M.area.b M.area.runs absent N M.area.wants in
+            inl (subst (λ l. turn ≡ Ends (Full l need)) same (subst (λ n. turn ≡ Ends (Full full.0 n)) more full.2))
+        | inr starves ↦ inr starves
+      ];
+    }
+
   pub planned_nothing : ChangesNothing txn r → FullAsPlanned txn limit r (Ends Done)
-  planned_nothing nothing = record { only = λ len need e. cc e; always = λ len need N none. absurd (N.changes nothing) }
+  planned_nothing nothing = as_planned (Ends Done) (λ len need e. absurd (cc e)) (λ len need N none. absurd (N.changes nothing))
 
   pub planned_ready : (h : History) (plan : Plan) → PlannedFor txn limit r h plan → FullAsPlanned txn limit r Step
-  planned_ready h plan P = record {
-    only = λ len need e. cc e;
-    always = λ len need N none. absurd (ready_not N.area.x N.area.b N.area.runs h plan N.area.wants none P);
-  }
+  planned_ready h plan P = as_planned Step (λ len need e. absurd (cc e)) (λ len need N none. absurd (ready_not N.area.x N.area.b N.area.runs h plan N.area.wants none P))
 
   pub planned_full : (h : History) (len need : ℕ) → AnsweredRightly txn limit r h (Err (TxnRefusal.Full len need)) → FullAsPlanned txn limit r (Ends (Full len need))
-  planned_full h len need A = record {
-    only = λ l n e.
-        let here : len ≡ l = cc in
-        let more : need ≡ n = cc in
-        subst (λ z. HasNoArea txn limit r z n) here (subst (HasNoArea txn limit r len) more (record { changes = A.0; area = A.1 }));
-    always = λ l n N none. inl (len, need, refl);
-  }
+  planned_full h len need A = as_planned (Ends (Full len need))
+      (λ l n e.
+      let here : len ≡ l = cc in
+      let more : need ≡ n = cc in
+      subst (λ z. HasNoArea txn limit r z n) here (subst (HasNoArea txn limit r len) more (record { changes = A.0; area = A.1 })))
+      (λ l n N none. inl (len, need, refl))
 
   pub planned_memory : FullAsPlanned txn limit r (Ends Memory)
-  planned_memory = record { only = λ len need e. cc e; always = λ len need N none. inr refl }
+  planned_memory = as_planned (Ends Memory) (λ len need e. absurd (cc e)) (λ len need N none. inr refl)
 
 -- a turn of a Prepare that doesn't plan never ends with Full
 early_never : (numbered : Bool) (s : PrepareStage) (turn : PrepareTurn) → PrepareLeads (at_stage numbered s) turn → (stage_steps s ≡ 2 → ⊥) → NeverFull (prepare_turn turn)
@@ -91,10 +118,8 @@ module _ (limit : ℕ) (r : List ℕ) (u v : Turn) (fits : (len need : ℕ) → 
   other_turn Unchanged F = never v not
   other_turn (Begun txn) F = never v not
   other_turn (Records txn) F = never v not
-  other_turn (Locked txn) F = record {
-    only = λ len need e. absurd (not len need e);
-    always = λ len need N none. elim (F.always len need N none) [ inl full ↦ absurd (fits full.0 full.1 full.2) | inr starves ↦ absurd (has starves) ];
-  }
+  other_turn (Locked txn) F = as_planned txn limit r v (λ len need e. absurd (not len need e))
+      (λ len need N none. elim (F.always len need N none) [ inl full ↦ absurd (fits full.0 full.1 full.2) | inr starves ↦ absurd (has starves) ])
   other_turn (Planned state) F = never v not
   other_turn (Filled state) F = never v not
 

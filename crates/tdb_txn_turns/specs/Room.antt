@@ -1,6 +1,9 @@
 -- The room that the plan of a commit finds, and that a turn ends for want of it exactly where there is none.
 use Rattle.std.specs.Prelude.{ℕ, ◌≡◌, ◌+◌, ◌<◌, ◌⊎◌, List}
+use Rattle.tdb_words.specs.Word.{word}
+use Rattle.tdb_words.specs.Header.{area_head}
 use Rattle.tdb_space.specs.Extents.{Extent}
+use Rattle.tdb_space.specs.Form.{form_of}
 use Rattle.tdb_space.specs.Planned.{content_length}
 use Rattle.tdb_law.specs.Commands.{Turn}
 use Rattle.tdb_law.specs.Commands.Reply.{Full, Memory}
@@ -34,18 +37,20 @@ pub record FullJustWhere (Lacks : ℕ → ℕ → Type 0) (turn : Turn) : Type 0
 abbrev pub NeverFull : Turn → Type 0
 NeverFull turn = FullJustWhere (λ len need. ⊥) turn
 
--- The turn that plans ends with Full only where the plan has no room, with its numbers; and it does where it has none
--- whichever of the areas that may be wanted it is, unless memory is wanting.
+-- The turn that plans ends with Full only where the plan has no room, with its numbers. It does end so, unless memory
+-- is wanting, where the plan has no room and the file no undo area yet; and where the file has one that is to be
+-- replaced, if none of the areas fits that may be wanted then.
 pub record FullAsPlanned (txn : Txn) (limit : ℕ) (r : List ℕ) (turn : Turn) : Type 0 where
   pub only : (len need : ℕ) → turn ≡ Ends (Full len need) → HasNoArea txn limit r len need
   pub always : (len need : ℕ) → HasNoArea txn limit r len need → NoneFits txn limit r → ((l : ℕ) × (n : ℕ) × (turn ≡ Ends (Full l n))) ⊎ (turn ≡ Ends Memory)
+  pub first : (len need : ℕ) → HasNoArea txn limit r len need → word (form_of r).order r area_head ≡ 0 → (turn ≡ Ends (Full len need)) ⊎ (turn ≡ Ends Memory)
 
 -- the third turn of a Prepare plans, and no other ends with Full
 abbrev pub PrepareFull : PrepareStage → ℕ → List ℕ → Turn → Type 0
 PrepareFull (Locked txn) limit r turn = FullAsPlanned txn limit r turn
 PrepareFull _ limit r turn = NeverFull turn
 
--- and so of a Commit
+-- so does the third turn of a Commit
 abbrev pub CommitFull : Committing → ℕ → List ℕ → Turn → Type 0
 CommitFull (Preparing p) limit r turn = PrepareFull p.stage limit r turn
 CommitFull (Finishing s) limit r turn = NeverFull turn

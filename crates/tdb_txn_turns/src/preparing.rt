@@ -119,8 +119,7 @@ fn opening_turn(txn: Txn, numbered: bool, locks: &mut Locks, owner: u32) -> Prep
     }
 }
 
-/// The third plans the commit. Where there is no room, or no memory, the opener lets go of all that it holds. `Full`
-/// comes just where a new undo area is wanted, and with it the file would pass the limit.
+/// The third plans the commit. Where there is no room, or no memory, the opener lets go of all that it holds.
 fn plan_turn<D: Disk>(
     txn: Txn,
     numbered: bool,
@@ -195,11 +194,12 @@ impl Preparing {
     ///
     /// The turns take all records for writing; the opening lock, and the sequence number with it where the changes
     /// raise that; see to the undo area; fill it; and open its gate. `Blocked` by the first conflict: then nothing
-    /// changes. Where nothing is to be committed, the first turn or the third ends it so. `Memory` comes up to the third
-    /// turn; `Full` at the third alone, just where a new undo area is wanted and with it the file would pass the limit,
-    /// with the length of the transaction's image and that of the area. Both come before the file is changed, and then
-    /// the opener holds nothing. A stop at any moment leaves a file that opens to the map before. `Io` where the disk
-    /// failed: then the commit is given up, and the opener keeps its locks.
+    /// changes. Where nothing is to be committed, the first turn or the third ends it so. `Memory` comes up to the
+    /// third turn; `Full` at the third alone, only where a new undo area is wanted and with it the file would pass the
+    /// limit, with the length of the transaction's image and that of the area. There it comes, unless memory is
+    /// wanting, where the file has no undo area yet, or none of those fits that may be wanted. Both come before the
+    /// file is changed, and then the opener holds nothing. A stop at any moment leaves a file that opens to the map
+    /// before. `Io` where the disk failed: then the commit is given up, and the opener keeps its locks.
     ///
     /// Cost: a pass over the lock table, or a state of a commit.
     pub fn step<D: Disk>(

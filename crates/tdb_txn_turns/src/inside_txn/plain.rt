@@ -88,10 +88,10 @@ impl OwnTxn {
     /// stands on a record at `stood_on` if it stands on one. `h` is the header of the file.
     ///
     /// The reply is that of the command on the map of the transaction, or says that memory or space is wanting, and
-    /// then that map is as it was. `Full` comes exactly where the image of the transaction has no room, up to the limit,
-    /// for what the command stores, with the length of that image and what the record needs. Nothing is written to the
-    /// disk, and no lock is taken. With `Ok` of a command that may change the map there is something to commit, and the
-    /// sequence number is raised where changes count. `Io` only where the disk failed.
+    /// then that map is as it was. `Full` comes exactly where the image of the transaction has no room, up to the
+    /// limit, for what the command stores, with the length of that image and what the record needs. Nothing is written
+    /// to the disk, and no lock is taken. With `Ok` of a command that may change the map there is something to commit,
+    /// and the sequence number is raised where changes count. `Io` only where the disk failed.
     ///
     /// The cursor rests where it did: its record is marked as dead where the command deletes it or links another one
     /// in its place, and stays in its chain.
