@@ -15,3 +15,4 @@ pub mod Died
 pub mod Calm
 pub mod Aside
 pub mod ShutOut
+pub mod Stopped

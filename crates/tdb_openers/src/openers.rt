@@ -23,6 +23,8 @@ ghost use Rattle.tdb_openers.specs.Given.{IsBeginning, IsShortLocking, IsWellHel
 ghost use Rattle.tdb_openers.specs.declared.job.Job.TheVariants as Jobs;
 ghost use Rattle.tdb_openers.specs.declared.job.Locking.{Locking};
 ghost use Rattle.tdb_openers.specs.ShutOut.{IsReplaced, JobMeets, MayMeet, opener_after};
+ghost use Rattle.tdb_openers.specs.Laws.{other_hands};
+ghost use Rattle.tdb_openers.specs.Stopped.{JobStopped};
 ghost use Rattle.tdb_openers.specs.Worlds.{fresh, state_in, law_of_task, Stands, BytesStand, IsNumber, IsFree, IsBusy, IsAssigned};
 
 use crate::job::Task;
@@ -289,6 +291,8 @@ impl Openers {
             → Turned (form_in self.old.header) (state_in self.old (S.image s.old)) (law_opener who) (law_of_task t) (law_turn turn) (state_in self.new (S.image s.new))) }
         ensures full { IfOk result (λ turn. IsTrue S.tells → BytesStand self.old (S.image s.old) → (x : Opener) (t : Task) → IsBusy self.old who x t
             → FullAtTake (form_in self.old.header) (S.image s.old) self.old.options.limit (law_of_task t) (law_turn turn)) }
+        ensures stopped { OnErr result (IsTrue S.tells → BytesStand self.old (S.image s.old) → (x : Opener) (t : Task) → IsBusy self.old who x t
+            → JobStopped (form_in self.old.header) (S.image s.old) (S.image s.new) x.walk.cursor t.job t.steps (other_hands self.old.openers (law_opener who))) }
         ensures calm { IsCalm S.Space s.old s.new self.old.table (law_opener who) }
         ensures spared { (x : Opener) (t : Task) → IsBusy self.old who x t → IsSparing S.Space s.old s.new (form_in self.old.header) (own_of self.old.options x) (law_of_task t) }
         ensures busy { IfOk result (λ turn. turn ≡ Turn.Step → (x : Opener) × (t : Task) × IsBusy self.new who x t) }

@@ -9,7 +9,7 @@ ghost use Rattle.tdb_law.specs.World.{HasFewChains};
 ghost use Rattle.tdb_law.specs.Openers.{View};
 ghost use Rattle.tdb_commands.specs.InLaw.{law_turn};
 ghost use Rattle.tdb_steps.specs.Stages.{IsIdle};
-ghost use Rattle.tdb_steps.specs.Machines.{begun};
+ghost use Rattle.tdb_steps.specs.Machines.{begun, MachineStopped};
 ghost use Rattle.tdb_steps.specs.LockTurns.{ActRightly};
 ghost use Rattle.tdb_steps.specs.Room.{FullAtTake};
 ghost use Rattle.tdb_openers.specs.Given.{IsWellHeld};
@@ -78,6 +78,10 @@ pub(crate) fn plain_turn<S: Space>(
         → JobIsReady (S.form s.old) (own_with options live held.now rest) (resting rest) (Plain machine.old) n who owner (S.size s.old) locks.old
         → ImageBefore (S.form s.old) (Plain machine.old) (S.image s.old) others
         → FullAtTake (S.form s.old) (S.image s.old) limit (record { command = command_in (Plain machine.old); steps = n }) (law_turn turn)) }
+    ensures stopped { OnErr result (IsTrue S.tells → S.size s.old < 2 ^ 32 → (options : Options) (live : Bool) (rest : AtRest) (n who : ℕ) (others : List HandPair)
+        → JobIsReady (S.form s.old) (own_with options live held.now rest) (resting rest) (Plain machine.old) n who owner (S.size s.old) locks.old
+        → ImageBefore (S.form s.old) (Plain machine.old) (S.image s.old) others
+        → MachineStopped (S.form s.old) (S.image s.old) (S.image s.new) machine.old n others) }
     ensures ended { IfOk result (λ turn. (reply : Reply) → turn ≡ Turn.Done reply → machine.new ≡ begun machine.old.command machine.old.chain machine.old.seqnum) }
     ensures same { machine.new.command ≡ machine.old.command }
     ensures calm { (options : Options) (live : Bool) (rest : AtRest) (n who : ℕ)

@@ -9,6 +9,7 @@ ghost use Rattle.tdb_space.specs.Spare.{without_bound};
 ghost use Rattle.tdb_law.specs.World.{HasFewChains};
 ghost use Rattle.tdb_law.specs.Openers.{View};
 ghost use Rattle.tdb_steps.specs.Room.{FullAtTake};
+ghost use Rattle.tdb_walk.specs.Cursors.{At};
 ghost use Rattle.tdb_commands.specs.InLaw.{law_turn};
 ghost use Rattle.tdb_openers.specs.declared.job.Task.{Task};
 ghost use Rattle.tdb_openers.specs.Given.{IsWellHeld};
@@ -18,6 +19,7 @@ ghost use Rattle.tdb_openers.specs.Calm.{IsCalm, IsSparing};
 ghost use Rattle.tdb_openers.specs.Cursors.{is_stood, CursorsBeside, LeavesCursors};
 ghost use Rattle.tdb_openers.specs.Jobs.{IsPlain, JobIsReady, JobTurned, JobFiled, task_after};
 ghost use Rattle.tdb_openers.specs.Laws.{MayStand};
+ghost use Rattle.tdb_openers.specs.Stopped.{JobStopped};
 ghost use Rattle.tdb_openers.specs.Worlds.{law_of_task};
 
 use crate::checking::check_turn;
@@ -68,6 +70,9 @@ impl Job {
             → JobIsReady (S.form s.old) (own_with options.now live held.old rest) (resting rest) self.old n who owner (S.size s.old) locks.old
             → ImageBefore (S.form s.old) self.old (S.image s.old) others → IsPlain self.old
             → FullAtTake (S.form s.old) (S.image s.old) options.now.limit (record { command = command_in self.old; steps = n }) (law_turn turn)) }
+        ensures stopped { OnErr result (IsTrue S.tells → (cursor : At) (rest : AtRest) (n who : ℕ) (others : List HandPair)
+            → JobIsReady (S.form s.old) (own_with options.now live held.old rest) (resting rest) self.old n who owner (S.size s.old) locks.old
+            → ImageBefore (S.form s.old) self.old (S.image s.old) others → JobStopped (S.form s.old) (S.image s.old) (S.image s.new) cursor self.old n others) }
         ensures calm { (rest : AtRest) (n who : ℕ) → JobIsReady (S.form s.old) (own_with options.now live held.old rest) (resting rest) self.old n who owner (S.size s.old) locks.old
             → IsCalm S.Space s.old s.new locks.old who }
         ensures spared { (rest : AtRest) (n who : ℕ) → JobIsReady (S.form s.old) (own_with options.now live held.old rest) (resting rest) self.old n who owner (S.size s.old) locks.old
@@ -149,6 +154,8 @@ impl Opener {
         ensures stands { OnOk result (MayStand (S.form s.old) options.now (S.size s.new) self.new) }
         ensures full { IfOk result (λ turn. IsTrue S.tells → (t : Task) (who : ℕ) (others : List HandPair) → self.old.task ≡ Some t → owner ≡ who + 1 → ImageBefore (S.form s.old) t.job (S.image s.old) others
             → IsPlain t.job → FullAtTake (S.form s.old) (S.image s.old) options.now.limit (law_of_task t) (law_turn turn)) }
+        ensures stopped { OnErr result (IsTrue S.tells → (t : Task) (who : ℕ) (others : List HandPair) → self.old.task ≡ Some t → owner ≡ who + 1 → ImageBefore (S.form s.old) t.job (S.image s.old) others
+            → JobStopped (S.form s.old) (S.image s.old) (S.image s.new) self.old.walk.cursor t.job t.steps others) }
         ensures calm { (who : ℕ) → owner ≡ who + 1 → IsCalm S.Space s.old s.new locks.old who }
         ensures spared { (t : Task) → self.old.task ≡ Some t → IsSparing S.Space s.old s.new (S.form s.old) (own_of options.now self.old) (law_of_task t) }
         ensures walk { self.new.walk ≡ self.old.walk }

@@ -1,6 +1,6 @@
 // A plain command that is done turn by turn, and as a report tells it.
 
-ghost use Rattle.std.specs.Prelude.{◌≡◌, ◌<◌, ◌≤◌, ◌^◌, ℕ, Bool, List, IsTrue, IfOk};
+ghost use Rattle.std.specs.Prelude.{◌≡◌, ◌<◌, ◌≤◌, ◌^◌, ℕ, Bool, List, IsTrue, IfOk, OnErr};
 ghost use Rattle.tdb_disk.specs.Count.{HasCause};
 ghost use Rattle.tdb_space.specs.Form.{form_in};
 ghost use Rattle.tdb_space.specs.Pairs.{home};
@@ -13,7 +13,7 @@ ghost use Rattle.tdb_law.specs.Openers.{View};
 ghost use Rattle.tdb_commands.specs.InLaw.{law_command, law_turn};
 ghost use Rattle.tdb_steps.specs.LockRows.{rows_of};
 ghost use Rattle.tdb_steps.specs.PlainCommands.{key_of, command_of};
-ghost use Rattle.tdb_steps.specs.Machines.{begun, IsShort};
+ghost use Rattle.tdb_steps.specs.Machines.{begun, IsShort, MachineStopped};
 ghost use Rattle.tdb_steps.specs.Room.{FullAtTake};
 ghost use Rattle.tdb_openers.specs.Calm.{IsCalm, IsSparing};
 ghost use Rattle.tdb_openers.specs.Given.{IsWellHeld};
@@ -102,6 +102,10 @@ impl PlainJob {
             → JobIsReady (S.form s.old) (own_with options live held.now rest) (resting rest) (Plain self.old) n who owner (S.size s.old) locks.old
             → ImageBefore (S.form s.old) (Plain self.old) (S.image s.old) others
             → FullAtTake (S.form s.old) (S.image s.old) limit (record { command = command_in (Plain self.old); steps = n }) (law_turn turn)) }
+        ensures stopped { OnErr result (IsTrue S.tells → S.size s.old < 2 ^ 32 → (options : Options) (live : Bool) (rest : AtRest) (n who : ℕ) (others : List HandPair)
+            → JobIsReady (S.form s.old) (own_with options live held.now rest) (resting rest) (Plain self.old) n who owner (S.size s.old) locks.old
+            → ImageBefore (S.form s.old) (Plain self.old) (S.image s.old) others
+            → MachineStopped (S.form s.old) (S.image s.old) (S.image s.new) self.old n others) }
         ensures calm { (options : Options) (live : Bool) (rest : AtRest) (n who : ℕ)
             → JobIsReady (S.form s.old) (own_with options live held.now rest) (resting rest) (Plain self.old) n who owner (S.size s.old) locks.old → IsCalm S.Space s.old s.new locks.old who }
         ensures spared { (options : Options) (live : Bool) (rest : AtRest) (n who : ℕ)

@@ -1,11 +1,11 @@
 // One turn of a command on an opener's cursor.
 
-ghost use Rattle.std.specs.Prelude.{◌≡◌, ◌≤◌, ◌<◌, ◌-◌, None, Some, length, set, IfOk};
+ghost use Rattle.std.specs.Prelude.{◌≡◌, ◌≤◌, ◌<◌, ◌-◌, ◌^◌, None, Some, length, set, IsTrue, IfOk, OnErr};
 ghost use Rattle.std.specs.Option.{option_map};
 ghost use Rattle.tdb_disk.specs.Count.{HasCause};
 ghost use Rattle.tdb_space.specs.Frame.{Looked, Wrote};
 ghost use Rattle.tdb_walk.specs.ByteLocks.{HoldsWords};
-ghost use Rattle.tdb_walk.specs.Cursors.{dead_of};
+ghost use Rattle.tdb_walk.specs.Cursors.{StepStops, dead_of};
 ghost use Rattle.tdb_walk.specs.InLaw.{goal_of};
 ghost use Rattle.tdb_walk.specs.Spots.{LacksCursor, spot_number};
 ghost use Rattle.tdb_openers.specs.declared.job.Task.{Task};
@@ -41,6 +41,7 @@ impl Walking {
         ensures turned { IfOk result (WalkStepped S.tells (S.form s.old) (S.image s.old) (S.image s.new) (S.size s.old) locks.old locks.new owner (set spots.old (owner - 1) 0) (walk_command self) read_only
             (record { live = live.old; held = held.old; walk = walk.old }) (record { live = live.new; held = held.new; walk = walk.new })) }
         ensures spots { spots.new ≡ set spots.old (owner - 1) (spot_number walk.new.cursor.place) }
+        ensures stopped { OnErr result (IsTrue S.tells → S.size s.old < 2 ^ 32 → StepStops (S.form s.old) (S.image s.old) (S.image s.new) walk.old.cursor) }
         ensures idle { dead_of walk.old.cursor.place walk.old.cursor.stage ≡ None → Looked S.Space s.old s.new }
         ensures size { S.size s.new ≡ S.size s.old }
         ensures wrote { Wrote S.Space s.old s.new }
@@ -95,6 +96,7 @@ impl Opener {
         ensures turned { IfOk result (λ turn. (t : Task) → self.old.task ≡ Some t
             → WalkTurned S.tells (S.form s.old) (S.image s.old) (S.image s.new) (S.size s.old) locks.old locks.new owner (set spots.old (owner - 1) 0) (walk_command walking) read_only t self.old self.new turn) }
         ensures spots { spots.new ≡ set spots.old (owner - 1) (spot_number self.new.walk.cursor.place) }
+        ensures stopped { OnErr result (IsTrue S.tells → S.size s.old < 2 ^ 32 → StepStops (S.form s.old) (S.image s.old) (S.image s.new) self.old.walk.cursor) }
         ensures idle { dead_of self.old.walk.cursor.place self.old.walk.cursor.stage ≡ None → Looked S.Space s.old s.new }
         ensures size { S.size s.new ≡ S.size s.old }
         ensures wrote { Wrote S.Space s.old s.new }

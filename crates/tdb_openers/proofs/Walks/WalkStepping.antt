@@ -2,6 +2,7 @@
 use Rattle.std.proofs.Common.{Result, Ok, Err, IfOk, OnOk, IsTrue, ◌≡◌, ℕ, zero, suc, ◌+◌, ◌-◌, ◌≤◌, List, [], ◌∷◌, set, slice_index_or, slice_set, Bool, Some, None, refl, sym, ◌∙◌, ap, subst, arith}
 use Rattle.tdb_words.specs.declared.header.Header.{Header}
 use Rattle.tdb_space.specs.Form.{Form, form_in}
+use Rattle.tdb_space.specs.Extents.{HandPair}
 use Rattle.tdb_locks.specs.declared.piece.Piece.{Piece}
 use Rattle.tdb_locks.specs.declared.turn.Turn.{Turn}
 use Rattle.tdb_locks.specs.declared.turn.Turn.TheVariants.{Step}
@@ -9,23 +10,28 @@ use Rattle.tdb_law.specs.Commands.{WalkCommand}
 use Rattle.tdb_law.specs.Turned.{Turned}
 use Rattle.tdb_commands.specs.InLaw.{law_opener, law_turn}
 use Rattle.tdb_walk.specs.ByteLocks.{HoldsWords}
-use Rattle.tdb_walk.specs.Cursors.{dead_of}
+use Rattle.tdb_walk.specs.Cursors.{At, StepStops, dead_of}
+use Rattle.tdb_walk.specs.Purging.{PurgeBroken}
 use Rattle.tdb_walk.specs.InLaw.{goal_of, is_before}
 use Rattle.tdb_walk.specs.Spots.{LacksCursor, spot_number}
 use Rattle.tdb_commands.specs.declared.options.Options.{Options}
 use Rattle.tdb_openers.specs.declared.opener.Opener.{Opener}
+use Rattle.tdb_openers.specs.declared.job.Job.{Job}
+use Rattle.tdb_openers.specs.declared.job.Job.TheVariants as Jobs
 use Rattle.tdb_openers.specs.declared.job.Task.{Task}
 use Rattle.tdb_openers.specs.Openers.{own_of, spots_of, walk_in, walk_of}
 use Rattle.tdb_openers.specs.States.{state_of, WorldStands, FileStands}
 use Rattle.tdb_openers.specs.Jobs.{task_after}
-use Rattle.tdb_openers.specs.Laws.{HasTask, IsPut}
+use Rattle.tdb_openers.specs.Cursors.{CursorKnows}
+use Rattle.tdb_openers.specs.Stopped.{JobStopped}
+use Rattle.tdb_openers.specs.Laws.{HasTask, IsPut, other_hands}
 use Rattle.tdb_openers.specs.Calm.{WritesNoRecord, IsMidway}
 use Rattle.tdb_openers.specs.Walked.{WalkTurned}
 use Rattle.tdb_openers.specs.Worlds.{IsBusy, law_of_task}
 use Rattle.tdb_openers.proofs.Joining.Putting.{numbered, put_numbered, by_number}
 use Rattle.tdb_openers.proofs.PlainTurns.Calm.{walk_calm, walk_spared}
 use Rattle.tdb_openers.proofs.Walks.Purgers.{walks_command}
-use Rattle.tdb_openers.proofs.Walks.WalkReady.{walk_ready, walk_words_held, walk_asked, walk_few}
+use Rattle.tdb_openers.proofs.Walks.WalkReady.{walk_ready, walk_words_held, walk_asked, walk_few, image_accepted}
 use Rattle.tdb_openers.proofs.Walks.WalkHeld.{walk_keeps_world}
 use Rattle.tdb_openers.proofs.Walks.WalkFiled.{walk_keeps_file}
 use Rattle.tdb_openers.proofs.Walks.WalkLifted.{walk_is_turned}
@@ -45,6 +51,15 @@ spots_put (x ∷ xs) (suc i) y = ap (λ l. spot_number x.walk.cursor.place ∷ l
 -- the file
 abbrev pub Walks : Bool → Form → Bool → Opener → Opener → ℕ → List Piece → List Piece → List ℕ → WalkCommand → List ℕ → List ℕ → ℕ → Turn → Type 0
 Walks tells f read_only d y who ps qs spots w a b size turn = (t : Task) → d.task ≡ Some t → WalkTurned tells f a b size ps qs who (set spots (who - 1) 0) w read_only t d y turn
+
+-- what a turn of a job on the cursor leaves where it fails
+job_stopped : (f : Form) (a b : List ℕ) (cursor : At) (job : Job) (n : ℕ) (others : List HandPair) (w : WalkCommand) → walk_in job ≡ Some w → PurgeBroken f a b (dead_of cursor.place cursor.stage) others → JobStopped f a b cursor job n others
+job_stopped f a b cursor (Jobs.Refused command reply) n others w e broken = absurd (cc e)
+job_stopped f a b cursor (Jobs.Plain d) n others w e broken = absurd (cc e)
+job_stopped f a b cursor (Jobs.Check checking) n others w e broken = absurd (cc e)
+job_stopped f a b cursor (Jobs.Locking locking) n others w e broken = absurd (cc e)
+job_stopped f a b cursor Jobs.Seqnum n others w e broken = absurd (cc e)
+job_stopped f a b cursor (Jobs.Walk walking) n others w e broken = broken
 
 module _ (header : Header) (options : Options) (xs : List Opener) (ps : List Piece) (a : List ℕ) (size who : ℕ) (x d : Opener) (t : Task)
     (B : IsBusy (record { header = header; options = options; openers = xs; table = ps }) who x t) (item : d ≡ slice_index_or xs (who - 1) d)
@@ -78,6 +93,14 @@ module _ (header : Header) (options : Options) (xs : List Opener) (ps : List Pie
 
   pub asked_before : LacksCursor (goal_of w) d.walk.shown → ⊥
   asked_before = walk_asked (form_in header) options xs ps a size B.number.place d t w W has on
+
+  -- where its turn fails
+  pub walk_stopped : FileStands (form_in header) xs a → (b : List ℕ) → StepStops (form_in header) a b d.walk.cursor → JobStopped (form_in header) a b x.walk.cursor t.job t.steps (other_hands xs (law_opener who))
+  walk_stopped F b stops =
+      subst (λ p. JobStopped (form_in header) a b x.walk.cursor t.job t.steps (other_hands xs p)) (sym (by_number who B.number.place B.number.counted))
+      (subst (λ (z : Opener). JobStopped (form_in header) a b z.walk.cursor t.job t.steps (other_hands xs B.number.place)) same
+      (job_stopped (form_in header) a b d.walk.cursor t.job t.steps (other_hands xs B.number.place) w on
+      (stops (other_hands xs B.number.place) (image_accepted (form_in header) options xs ps a size B.number.place d t w W has on F) (subst (CursorKnows (form_in header) a) has.there (F.cursors B.number.place)))))
 
   module _ (tells : Bool) (y : Opener) (qs : List Piece) (b : List ℕ) (turn : Turn) (L : Walks tells (form_in header) options.read_only d y who ps qs (spots_of xs) w a b size turn) where
     put : IsPut xs B.number.place y (slice_set xs (who - 1) y)

@@ -14,6 +14,7 @@ use Rattle.tdb_openers.proofs.PlainTurns.Calm.{plain_calm, plain_spared}
 use Rattle.tdb_openers.proofs.PlainTurns.PlainJob.{left_image}
 use Rattle.tdb_openers.proofs.PlainTurns.PlainCursors.{plain_cursors}
 use Rattle.tdb_openers.proofs.PlainTurns.Fullness.{plain_full}
+use Rattle.std.proofs.lemmas.Result.{on_err_weaker}
 use Rattle.tdb_openers.proofs.plain.plain_turn.Goals as goal
 
 -- what holds of an answer by four facts, by three, and by two
@@ -116,3 +117,8 @@ returns-clause-spared g c options live rest n who J spares =
       | inl looks ↦ c.step.ensures.looked looks
       | inr quiet ↦ c.step.ensures.idle quiet
     ]
+
+-- what a failed step of the machine leaves
+pub returns-clause-stopped : goal.returns-clause-stopped
+returns-clause-stopped g c =
+    on_err_weaker c.step.result (λ stopped told small options live rest n who others J I. stopped told small n others J.stands.after I.may_be_out I.accepted I.knows) c.step.ensures.stopped

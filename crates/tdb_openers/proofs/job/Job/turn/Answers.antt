@@ -3,7 +3,7 @@ use Rattle.std.proofs.Common.{None, [], ◌<◌, false, refl, sym, subst, arith,
 use Rattle.tdb_openers.specs.declared.job.Job.TheVariants as Jobs
 use Rattle.tdb_commands.specs.InLaw.{law_command, law_reply, law_turn}
 use Rattle.tdb_openers.specs.Openers.{own_with, command_in, IsRefused}
-use Rattle.std.proofs.lemmas.Result.{IfOk-weaker}
+use Rattle.std.proofs.lemmas.Result.{IfOk-weaker, on_err_weaker}
 use Rattle.tdb_locks.specs.LockTable.{held}
 use Rattle.tdb_openers.proofs.Checks.CheckReady.{number_alone}
 use Rattle.tdb_openers.specs.Turning.{TurnsFile, ImageBefore, OpenerHolds, resting}
@@ -21,6 +21,8 @@ use Rattle.tdb_law.specs.Held.{kept}
 use Rattle.tdb_law.specs.Images.{image_map}
 use Rattle.tdb_law.proofs.HandsOut.{image_answers}
 use Rattle.tdb_openers.proofs.Checks.CheckJob.{of_three, of_four, has_keys, check_ready_alone, check_ready_holds, check_turned, check_file, check_image, accepted_before}
+use Rattle.tdb_space.proofs.Results.{on_err}
+use Rattle.tdb_openers.specs.Stopped.{JobStopped}
 use Rattle.tdb_openers.proofs.job.Job.turn.Goals as goal
 
 -- what doesn't depend on a view
@@ -283,3 +285,28 @@ returns-in-Plain-clause-spared g c rest n who J spares =
     let x = own_with c.args.options.now c.args.live c.args.held.now rest in
     c.turn.ensures.spared c.args.options.now c.args.live rest n who (subst (λ j. JobIsReady f x (resting rest) j n who c.args.owner (g.S.Space.size c.args.s.now) c.args.locks.now) c.in-Plain.is J)
     (subst (λ j. IsMidway f x (record { command = command_in j; steps = n }) → ⊥) c.in-Plain.is spares)
+
+-- A turn of a command on the map that failed leaves what its machine leaves; one of another leaves the file.
+pub returns-in-Plain-clause-stopped : goal.returns-in-Plain-clause-stopped
+returns-in-Plain-clause-stopped g c =
+    let f = g.S.Space.form c.args.s.now in
+    let a = g.S.Space.image c.args.s.now in
+    let b = g.S.Space.image c.turn.new.s in
+    let size = g.S.Space.size c.args.s.now in
+    let within = c.requires.within in
+    let limit = c.requires.limit in
+    on_err_weaker c.turn.result
+    (λ stopped told cursor rest n who others J I.
+    (let x = own_with c.args.options.now c.args.live c.args.held.now rest in
+    let ready = subst (λ j. JobIsReady f x (resting rest) j n who c.args.owner size c.args.locks.now) c.in-Plain.is J in
+    let before = subst (λ j. ImageBefore f j a others) c.in-Plain.is I in
+    let small : size < 4294967296 = omega (arith, within, limit) in
+    subst (λ j. JobStopped f a b cursor j n others) (sym c.in-Plain.is) (stopped told small c.args.options.now c.args.live rest n who others ready before))) c.turn.ensures.stopped
+
+pub returns-in-Check-clause-stopped : goal.returns-in-Check-clause-stopped
+returns-in-Check-clause-stopped g c = on_err c.check_turn.result (λ told cursor rest n who others J I.
+    subst (λ j. JobStopped (g.S.Space.form c.args.s.now) (g.S.Space.image c.args.s.now) (g.S.Space.image c.check_turn.new.s) cursor j n others) (sym c.in-Check.is) c.check_turn.ensures.looked.image)
+
+pub returns-in-Seqnum-clause-stopped : goal.returns-in-Seqnum-clause-stopped
+returns-in-Seqnum-clause-stopped g c = on_err c.seqnum_turn.result (λ told cursor rest n who others J I.
+    subst (λ j. JobStopped (g.S.Space.form c.args.s.now) (g.S.Space.image c.args.s.now) (g.S.Space.image c.seqnum_turn.new.s) cursor j n others) (sym c.in-Seqnum.is) c.seqnum_turn.ensures.looked.image)

@@ -9,9 +9,10 @@ use Rattle.tdb_commands.specs.InLaw.{law_turn}
 use Rattle.tdb_steps.proofs.Made.{of_both}
 use Rattle.tdb_steps.specs.Room.{FullAtTake}
 use Rattle.tdb_openers.specs.Jobs.{IsPlain}
-use Rattle.std.proofs.lemmas.Result.{IfOk-weaker}
+use Rattle.std.proofs.lemmas.Result.{IfOk-weaker, on_err_weaker}
 use Rattle.tdb_openers.proofs.PlainTurns.TaskReady.{task_few, task_ready, after_beside}
 use Rattle.tdb_openers.proofs.Walks.Rests.{walk_still, walk_rests}
+use Rattle.tdb_openers.specs.Stopped.{JobStopped}
 use Rattle.tdb_openers.proofs.opener.Opener.turn.Goals as goal
 
 pub after-requires : goal.after-requires
@@ -131,3 +132,18 @@ returns-clause-spared g c t e spares =
     c.turn-turn.ensures.spared (rest_of c.args.self.now.walk) now.steps h.0
     (task_ready f c.args.options.now c.args.self.now (g.S.Space.size c.args.s.now) c.args.owner c.args.locks.now c.requires.stands c.requires.holds now busy h.0 h.1)
     (subst (λ u. IsMidway f (own_of c.args.options.now c.args.self.now) (law_of_task u) → ⊥) (sym same) spares)
+
+pub returns-clause-stopped : goal.returns-clause-stopped
+returns-clause-stopped g c =
+    let f = g.S.Space.form c.args.s.now in
+    let a = g.S.Space.image c.args.s.now in
+    let b = g.S.Space.image c.turn-turn.new.s in
+    let now = c.in-Some.now in
+    let cursor = c.args.self.now.walk.cursor in
+    let busy : c.args.self.now.task ≡ Some now = sym c.take.ensures.value ∙ c.in-Some.is in
+    on_err_weaker c.turn-turn.result
+    (λ stopped told t who others e number I.
+    (let same : now ≡ t = ap (λ o. unwrap_or o now) (sym busy ∙ e) in
+    let ready = task_ready f c.args.options.now c.args.self.now (g.S.Space.size c.args.s.now) c.args.owner c.args.locks.now c.requires.stands c.requires.holds now busy who number in
+    subst (λ u. JobStopped f a b cursor u.job u.steps others) same
+    (stopped told cursor (rest_of c.args.self.now.walk) now.steps who others ready (subst (λ u. ImageBefore f u.job a others) (sym same) I)))) c.turn-turn.ensures.stopped

@@ -1,18 +1,19 @@
 -- A turn of the opener with the number is a turn of the world.
-use Rattle.std.proofs.Common.{◌≡◌, ◌+◌, ◌-◌, ℕ, set, slice_get, slice_set, IsTrue, sym, ap, subst, ◌∙◌, arith}
+use Rattle.std.proofs.Common.{◌≡◌, ◌<◌, ◌+◌, ◌-◌, ℕ, set, slice_get, slice_set, IsTrue, sym, ap, subst, ◌∙◌, arith}
 use Rattle.tdb_space.specs.Form.{form_in}
 use Rattle.tdb_openers.specs.Laws.{MayStand, other_hands}
 use Rattle.tdb_law.specs.Turned.{Turned}
 use Rattle.tdb_commands.specs.InLaw.{law_opener, law_turn}
-use Rattle.std.proofs.lemmas.Result.{IfOk-weaker}
+use Rattle.std.proofs.lemmas.Result.{IfOk-weaker, on_err_weaker}
 use Rattle.tdb_steps.proofs.Made.{of_both}
 use Rattle.tdb_openers.specs.States.{state_of}
 use Rattle.tdb_openers.specs.Worlds.{IsBusy, Stands, BytesStand, state_in, law_of_task}
 use Rattle.tdb_openers.specs.Turning.{resting, OpenerHolds, ImageBefore}
 use Rattle.tdb_openers.specs.Calm.{WritesNoRecord, IsMidway}
 use Rattle.tdb_openers.specs.Openers.{rest_of, own_of, command_in}
+use Rattle.tdb_walk.specs.Cursors.{StepStops}
 use Rattle.tdb_walk.specs.Spots.{spot_number}
-use Rattle.tdb_openers.proofs.Joining.Putting.{numbered, others_put, spots_still}
+use Rattle.tdb_openers.proofs.Joining.Putting.{numbered, by_number, others_put, spots_still}
 use Rattle.tdb_openers.proofs.PlainTurns.Stepping.{Locked, Filed, ok_so, ok_both, stands_before, holds_before, task_busy, busy_after, image_before, world_after, file_after, turned_after}
 use Rattle.std.specs.Option.{option_map}
 use Rattle.tdb_openers.specs.Openers.{walk_command, walk_of}
@@ -20,7 +21,8 @@ use Rattle.tdb_openers.specs.declared.opener.Opener.{Opener}
 use Rattle.tdb_steps.specs.Room.{FullAtTake}
 use Rattle.tdb_openers.proofs.PlainTurns.Fullness.{world_full, plain_beside}
 use Rattle.tdb_openers.proofs.Walks.WalkStepping.{calm_before, spared_before}
-use Rattle.tdb_openers.proofs.Walks.WalkStepping.{Walks, ok_of, spots_put, walk_busy, words_before, asked_before, walk_busy_after, walk_world_after, walk_file_after, walk_turned_after}
+use Rattle.tdb_openers.proofs.Walks.WalkStepping.{Walks, walk_stopped, ok_of, spots_put, walk_busy, words_before, asked_before, walk_busy_after, walk_world_after, walk_file_after, walk_turned_after}
+use Rattle.tdb_openers.specs.Stopped.{JobStopped}
 use Rattle.tdb_openers.proofs.openers.Openers.turn.Goals as goal
 
 pub turn-requires-clause-busy : goal.turn-requires-clause-busy
@@ -347,3 +349,54 @@ pub returns-in-Some-walking-clause-others : goal.returns-in-Some-walking-clause-
 returns-in-Some-walking-clause-others g c o ne =
     let N = c.requires.busy.2.number in
     others_put c.self.inside.list.items c.args.who N.place c.requires.busy.0 c.walk_turn.new.self N.counted (ap (λ w. slice_get w.openers N.place) c.self.view_is ∙ N.there) o ne ∙ ap (λ w. slice_get w.openers o) c.self.view_is
+
+-- What a turn that failed leaves of the file.
+pub returns-clause-stopped : goal.returns-clause-stopped
+returns-clause-stopped g c =
+    let e = c.self.view_is in
+    let form = c.requires.form ∙ ap (λ w. form_in w.header) (sym e) in
+    let header = c.self.inside.header in
+    let options = c.self.inside.options in
+    let xs = c.self.inside.list.items in
+    let ps = c.self.inside.locks in
+    let a = g.S.Space.image c.args.s.now in
+    let b = g.S.Space.image c.turn.new.s in
+    let size = g.S.Space.size c.args.s.now in
+    let W = subst (λ w. Stands w a size) (sym e) c.requires.stands in
+    let off = sym c.walking.ensures ∙ ap (option_map walk_command) c.in_default-walking.is in
+    let item = c.in-Some.ensures.item.1 in
+    let d = c.in-Some.opener.now in
+    on_err_weaker c.turn.result
+    (λ stopped told bytes x t B.
+    (let K = subst (λ w. IsBusy w c.args.who x t) (sym e) B in
+    let N = K.number in
+    let others = other_hands xs N.place in
+    let before = image_before header options xs ps a size c.args.who x d t K item W off (subst (λ w. BytesStand w a) (sym e) bytes) in
+    let left = stopped told t N.place others (task_busy header options xs ps a size c.args.who x d t K item W off) N.counted (subst (λ f. ImageBefore f t.job a others) (sym form) before) in
+    subst (λ w. JobStopped (form_in w.header) a b x.walk.cursor t.job t.steps (other_hands w.openers (law_opener c.args.who))) e
+    (subst (λ p. JobStopped (form_in header) a b x.walk.cursor t.job t.steps (other_hands xs p)) (sym (by_number c.args.who N.place N.counted))
+    (subst (λ (z : Opener). JobStopped (form_in header) a b z.walk.cursor t.job t.steps others) (numbered xs c.args.who N.place x d N.counted N.there item)
+    (subst (λ f. JobStopped f a b d.walk.cursor t.job t.steps others) form left))))) c.turn.ensures.stopped
+
+pub returns-in-Some-walking-clause-stopped : goal.returns-in-Some-walking-clause-stopped
+returns-in-Some-walking-clause-stopped g c =
+    let e = c.self.view_is in
+    let form = c.requires.form ∙ ap (λ w. form_in w.header) (sym e) in
+    let header = c.self.inside.header in
+    let options = c.self.inside.options in
+    let xs = c.self.inside.list.items in
+    let ps = c.self.inside.locks in
+    let a = g.S.Space.image c.args.s.now in
+    let b = g.S.Space.image c.walk_turn.new.s in
+    let size = g.S.Space.size c.args.s.now in
+    let W = subst (λ w. Stands w a size) (sym e) c.requires.stands in
+    let d = c.in-Some.opener.now in
+    let short = W.short in
+    let limit = W.limit in
+    let small : size < 4294967296 = omega (arith, short, limit) in
+    on_err_weaker c.walk_turn.result
+    (λ stopped told bytes x t B.
+    subst (λ w. JobStopped (form_in w.header) a b x.walk.cursor t.job t.steps (other_hands w.openers (law_opener c.args.who))) e
+    (walk_stopped header options xs ps a size c.args.who x d t (subst (λ w. IsBusy w c.args.who x t) (sym e) B) c.in-Some.ensures.item.1 W (walk_command c.in-Some-walking.walking)
+    (sym c.walking.ensures ∙ ap (option_map walk_command) c.in-Some-walking.is) (subst (λ w. BytesStand w a) (sym e) bytes) b
+    (subst (λ f. StepStops f a b d.walk.cursor) form (stopped told small)))) c.walk_turn.ensures.stopped

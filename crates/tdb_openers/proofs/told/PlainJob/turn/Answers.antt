@@ -1,9 +1,10 @@
 -- A turn of the command is one of its machine, which keeps the command.
 use Rattle.std.proofs.Common.{sym, ◌∙◌, ap, subst}
-use Rattle.std.proofs.lemmas.Result.{IfOk-weaker}
+use Rattle.std.proofs.lemmas.Result.{IfOk-weaker, on_err_weaker}
 use Rattle.tdb_law.specs.Commands.Command.{OnMap}
 use Rattle.tdb_steps.specs.PlainCommands.{command_of}
 use Rattle.tdb_steps.specs.Room.{FullAtTake}
+use Rattle.tdb_steps.specs.Machines.{MachineStopped}
 use Rattle.tdb_commands.specs.InLaw.{law_turn}
 use Rattle.tdb_openers.specs.declared.job.Job.TheVariants.{Plain}
 use Rattle.tdb_openers.specs.Openers.{own_with, command_in}
@@ -75,3 +76,17 @@ returns-clause-spared g c options live rest n who J spares =
     c.plain_turn.ensures.spared options live rest n who
     (subst (λ d. JobIsReady f x (resting rest) (Plain d) n who c.args.owner (g.S.Space.size c.args.s.now) c.args.locks.now) (sym c.self.view_is) J)
     (subst (λ d. IsMidway f x (record { command = command_in (Plain d); steps = n }) → ⊥) (sym c.self.view_is) spares)
+
+pub returns-clause-stopped : goal.returns-clause-stopped
+returns-clause-stopped g c =
+    let f = g.S.Space.form c.args.s.now in
+    let held = c.args.held.now in
+    let a = g.S.Space.image c.args.s.now in
+    let b = g.S.Space.image c.plain_turn.new.s in
+    let size = g.S.Space.size c.args.s.now in
+    let e = c.self.view_is in
+    on_err_weaker c.plain_turn.result
+    (λ stopped told small options live rest n who others J I.
+    (let ready = subst (λ d. JobIsReady f (own_with options live held rest) (resting rest) (Plain d) n who c.args.owner size c.args.locks.now) (sym e) J in
+    let before = subst (λ d. ImageBefore f (Plain d) a others) (sym e) I in
+    subst (λ d. MachineStopped f a b d n others) e (stopped told small options live rest n who others ready before))) c.plain_turn.ensures.stopped
