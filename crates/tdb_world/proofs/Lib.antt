@@ -31,6 +31,8 @@ pub mod NumberHeld
 pub mod AskingTurns
 pub mod OtherTurns
 pub mod Spared
+pub mod Outside
+pub mod Fullness
 pub mod OwnStart
 pub mod DeathsAmong
 pub mod DeathsAside

@@ -9,6 +9,8 @@ use Rattle.tdb_locks.specs.declared.kind.Kind.{Kind}
 use Rattle.tdb_locks.specs.declared.kind.Kind.TheVariants.{Read, Write}
 use Rattle.tdb_locks.specs.declared.piece.Piece.{Piece}
 use Rattle.tdb_law.specs.Commands.{Command, Turn}
+use Rattle.tdb_law.specs.Commands.Reply.{Full}
+use Rattle.tdb_law.specs.Commands.Turn.{Ends}
 use Rattle.tdb_law.specs.Counting.{settled_after}
 use Rattle.tdb_law.specs.Openers.{Own, Task as LawTask}
 use Rattle.tdb_law.specs.Refusals.{Refusal, refusal}
@@ -37,6 +39,7 @@ use Rattle.tdb_openers.specs.declared.job.Job.{Job}
 use Rattle.tdb_openers.specs.declared.job.Job.TheVariants as Jobs
 use Rattle.tdb_openers.specs.declared.job.Task.{Task}
 use Rattle.tdb_openers.specs.declared.opener.Opener.{Opener}
+use Rattle.tdb_openers.proofs.Barred.ShutOut.{its_own, IsBarred}
 use Rattle.tdb_openers.proofs.Joining.Occupied.{job_at, own_here}
 use Rattle.tdb_openers.proofs.ExplicitLocks.Sharing.{others_write_none}
 use Rattle.tdb_world.specs.Shut.{IsOpen, IsShutBy}
@@ -45,7 +48,9 @@ use Rattle.tdb_world.specs.States.IsStateOf.{of_whole, of_stale}
 use Rattle.tdb_world.specs.Steps.{IsAmong}
 use Rattle.tdb_world.specs.Steps.IsAmong.{among_all, among_others}
 use Rattle.tdb_world.specs.Whole.{Whole, form_at, options_at, is_starting, AsideFits, HolderFits, StartFits, WorldFits}
+use Rattle.tdb_world.proofs.Fullness.{shut_never}
 use Rattle.tdb_world.proofs.NumberHeld.{number_held}
+use Rattle.tdb_world.proofs.Outside.{aside_not}
 use Rattle.tdb_world.proofs.Standings.{aside_here, may_start_whole, plain, stands_aside, there_named}
 
 -- Only this opener changes.
@@ -406,6 +411,18 @@ module _ (w : Whole) (v : World) (who : ℕ) (x : Opener) (t : Task) (turn : Tur
     shut_at : (img : List ℕ) (past : Past) (side : Option Side) → IsSound f (whole (state_in w.openers img) past side) → SideIs w (Some Z.holder) h img past side → Leads h img past side
     shut_at img past None sound S = absurd S
     shut_at img past (Some s) sound A = shut_by img past s sound A
+
+    -- it doesn't end with Full
+    never_at : (len need : ℕ) → turn ≡ Ends (Full len need) → (img : List ℕ) (past : Past) (side : Option Side) → IsSound f (whole (state_in w.openers img) past side) → SideIs w (Some Z.holder) h img past side → ⊥
+    never_at len need e img past None sound S = absurd S
+    never_at len need e img past (Some s) sound A =
+        let C : IsBarred w.openers img past s owner who x t any size =
+        record { busy = B; other = λ is. aside_not w who Z.holder Z.aside (sym is ∙ Z.named) among; shuts = shuts img past s sound A; stands = F.openers } in
+        shut_never C (beside (state_in w.openers img) past s) _ turn len need (its_own C) (U img past s sound A).turned e
+
+    pub shut_not_full : (state : State) → IsStateOf w h state → (len need : ℕ) → turn ≡ Ends (Full len need) → ⊥
+    shut_not_full state (of_whole W) len need e = never_at len need e W.image W.past W.side W.sound (subst (λ a. SideIs w a h W.image W.past W.side) Z.aside W.is_side)
+    shut_not_full state (of_stale W) len need e = never_true (sym fresh ∙ W.stale)
 
     pub shut_leads : (state : State) → IsStateOf w h state → Reaches h state
     shut_leads = leads h h (λ img past side sound S. shut_at img past side sound (subst (λ a. SideIs w a h img past side) Z.aside S))

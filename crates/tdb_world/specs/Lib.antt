@@ -3,6 +3,7 @@ pub mod States
 pub mod Steps
 pub mod Claims
 pub mod Shut
+pub mod Room
 pub mod Died
 pub mod Stops
 pub mod Calm

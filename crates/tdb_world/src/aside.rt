@@ -19,6 +19,7 @@ ghost use Rattle.tdb_world.specs.Claims.{Claimed, ClaimStands, IsBarred, IsSettl
 ghost use Rattle.tdb_world.specs.Whole.{form_at, WorldFits};
 ghost use Rattle.tdb_world.specs.States.{IsStateOf};
 ghost use Rattle.tdb_world.specs.Steps.{with_aside, HasCommand, TurnLeads};
+ghost use Rattle.tdb_world.specs.Room.{FullAside, FullOfTurn};
 ghost use Rattle.tdb_world.specs.Stops.{IsSafe, TurnMayLeave};
 ghost use Rattle.tdb_world.specs.declared.aside.Claim.TheVariants as Claim;
 ghost use Rattle.tdb_txn_owner.specs.Syncs.{HolderSyncs};
@@ -95,6 +96,7 @@ impl AllOpeners {
         ensures fits { OnOk result (WorldFits self.new (seen (D.history d.new)) (D.size d.new)) }
         ensures fresh { OnOk result (self.new.stale ≡ false) }
         ensures turned { IfOk result (λ turn. IsTrue D.tells → TurnLeads (with_aside self.old holder) self.new (D.history d.old) (D.history d.new) holder.owner (law_turn turn)) }
+        ensures full { IfOk result (λ turn. IsTrue D.tells → FullAside (with_aside self.old holder) holder (D.history d.old) (law_turn turn)) }
         ensures stops { IsTrue D.tells → (state : State) → let f = form_at self.old in IsStateOf (with_aside self.old holder) (D.history d.old) state → IsSafe f (D.history d.old)
             → LeavesOnly (D.history d.old) (D.history d.new) (TurnMayLeave f state (law_opener holder.owner)) }
         ensures safe { OnOk result (IsTrue D.tells → (state : State) → let f = form_at self.old in IsStateOf (with_aside self.old holder) (D.history d.old) state → IsSafe f (D.history d.old)
@@ -133,6 +135,8 @@ impl AllOpeners {
         ensures fresh { OnOk result (self.new.stale ≡ false) }
         ensures turned { IfOk result (λ turn. IsTrue D.tells → (before : Openers) (x : Opener) → ClaimStands self.old holder (seen (D.history d.old)) (D.size d.old) before x
             → TurnLeads (record self.old { openers = before; aside = Some holder }) self.new (D.history d.old) (D.history d.new) holder.owner (law_turn turn)) }
+        ensures full { IfOk result (λ turn. IsTrue D.tells → (before : Openers) (x : Opener) → ClaimStands self.old holder (seen (D.history d.old)) (D.size d.old) before x
+            → FullAside (record self.old { openers = before; aside = Some holder }) holder (D.history d.old) (law_turn turn)) }
         ensures stops { IsTrue D.tells → (before : Openers) (x : Opener) (state : State) → let f = form_in before.header in
             ClaimStands self.old holder (seen (D.history d.old)) (D.size d.old) before x
             → IsStateOf (record self.old { openers = before; aside = Some holder }) (D.history d.old) state → IsSafe f (D.history d.old)
@@ -206,6 +210,7 @@ impl AllOpeners {
         ensures fits { OnOk result (WorldFits self.new (seen (D.history d.new)) (D.size d.new)) }
         ensures fresh { OnOk result (self.new.stale ≡ false) }
         ensures turned { IfOk result (λ turn. IsTrue D.tells → TurnLeads self.old self.new (D.history d.old) (D.history d.new) who (law_turn turn)) }
+        ensures full { IfOk result (λ turn. IsTrue D.tells → FullOfTurn self.old (D.history d.old) who (law_turn turn)) }
         ensures stops { IsTrue D.tells → (state : State) → let f = form_at self.old in IsStateOf self.old (D.history d.old) state → IsSafe f (D.history d.old)
             → LeavesOnly (D.history d.old) (D.history d.new) (TurnMayLeave f state (law_opener who)) }
         ensures safe { OnOk result (IsTrue D.tells → (state : State) → let f = form_at self.old in IsStateOf self.old (D.history d.old) state → IsSafe f (D.history d.old)

@@ -16,6 +16,8 @@ ghost use Rattle.tdb_openers.specs.Worlds.{law_of_task, state_in, BytesStand, Is
 ghost use Rattle.tdb_openers.specs.declared.job.Task.{Task};
 ghost use Rattle.tdb_openers.specs.declared.opener.Opener.{Opener};
 ghost use Rattle.tdb_world.specs.Shut.{IsOpen, IsShutBy};
+ghost use Rattle.tdb_world.specs.Room.{FullOfTurn};
+ghost use Rattle.tdb_steps.specs.Room.{FullAtTake};
 ghost use Rattle.tdb_world.specs.Whole.{form_at, is_starting, WorldFits};
 ghost use Rattle.tdb_world.specs.States.{IsStateOf};
 ghost use Rattle.tdb_world.specs.Steps.{HasCommand, IsAmong, TurnLeads};
@@ -64,6 +66,8 @@ impl AllOpeners {
         ensures bytes { OnOk result (IsTrue D.tells → BytesStand self.old.openers (seen (D.history d.old)) → BytesStand self.new.openers (seen (D.history d.new))) }
         ensures turned { IfOk result (λ turn. IsTrue D.tells → BytesStand self.old.openers (seen (D.history d.old)) → (x : Opener) (t : Task) → IsBusy self.old.openers who x t
             → Turned (form_in self.old.openers.header) (state_in self.old.openers (seen (D.history d.old))) (law_opener who) (law_of_task t) (law_turn turn) (state_in self.new.openers (seen (D.history d.new)))) }
+        ensures full { IfOk result (λ turn. IsTrue D.tells → BytesStand self.old.openers (seen (D.history d.old)) → (x : Opener) (t : Task) → IsBusy self.old.openers who x t
+            → FullAtTake (form_in self.old.openers.header) (seen (D.history d.old)) self.old.openers.options.limit (law_of_task t) (law_turn turn)) }
         ensures calm { WritesNoRecord self.old.openers.table (law_opener who) → (D.history d.new ≡ D.history d.old) × (D.size d.new ≡ D.size d.old) }
         ensures spared { (x : Opener) (t : Task) → IsBusy self.old.openers who x t → (IsMidway (form_in self.old.openers.header) (own_of self.old.openers.options x) (law_of_task t) → ⊥)
             → D.history d.new ≡ D.history d.old }
@@ -127,6 +131,7 @@ impl AllOpeners {
         ensures fits { OnOk result (WorldFits self.new (seen (D.history d.new)) (D.size d.new)) }
         ensures fresh { OnOk result (self.new.stale ≡ false) }
         ensures turned { IfOk result (λ turn. IsTrue D.tells → TurnLeads self.old self.new (D.history d.old) (D.history d.new) who (law_turn turn)) }
+        ensures full { IfOk result (λ turn. IsTrue D.tells → FullOfTurn self.old (D.history d.old) who (law_turn turn)) }
         ensures stops { IsTrue D.tells → (state : State) → let f = form_at self.old in IsStateOf self.old (D.history d.old) state → IsSafe f (D.history d.old) → (IsChanging f state (law_opener who) → ⊥)
             → LeavesOnly (D.history d.old) (D.history d.new) (TurnMayLeave f state (law_opener who)) }
         ensures safe { OnOk result (IsTrue D.tells → (state : State) → let f = form_at self.old in IsStateOf self.old (D.history d.old) state → IsSafe f (D.history d.old) → (IsChanging f state (law_opener who) → ⊥)

@@ -15,6 +15,11 @@ impl<D: Disk> World<D> {
     /// in the file, which no turn leaves. A Commit of a prepared transaction is never blocked, and is done after at
     /// most four turns of its opener.
     ///
+    /// `Full` comes exactly where there is no room for what the command stores, up to the limit, with the length of the
+    /// image and what it needs: outside a transaction in the file, at the turn in which it takes a record, and inside
+    /// one in the image of the transaction. Of a Commit and a Prepare it comes at the turn that plans, and only where
+    /// a new undo area has no room in the file.
+    ///
     /// Cost: that of the command's turn, and a search in the lock table; nothing is passed over that doesn't belong to
     /// it. A turn of a Start, a Commit or a Prepare, or one that ends a transaction, syncs the disk as often as its
     /// stage says, which makes nine times at most for a Commit; one that only looks at the file never does.

@@ -6,6 +6,8 @@ use Rattle.tdb_locks.specs.declared.turn.Turn.TheVariants as Turn
 use Rattle.tdb_commands.specs.InLaw.{law_opener, law_turn}
 use Rattle.tdb_txn_owner.specs.Holders.{HolderState}
 use Rattle.tdb_world.specs.contracts.all_openers.AllOpeners.{the_view}
+use Rattle.tdb_world.specs.Room.{FullAside}
+use Rattle.tdb_world.specs.Room.EndsFullRightly.{full_aside}
 use Rattle.tdb_world.specs.Stops.{IsSafe, TurnMayLeave}
 use Rattle.tdb_world.specs.Whole.{form_at, Whole}
 use Rattle.tdb_world.specs.States.{IsStateOf}
@@ -59,3 +61,11 @@ returns-clause-syncs g c =
     IfOk-weaker c.step_aside.result _ _
     (λ turn S. aside_syncs c.args.self.now c.args.who turn (g.D.Disk.syncs c.args.d.now) (g.D.Disk.syncs c.step_aside.new.d) c.in-Some.holder (aside g c) (sym (owner g c)) S)
     c.step_aside.ensures.syncs
+
+pub returns-clause-full : goal.returns-clause-full
+returns-clause-full g c =
+    let h = g.D.Disk.history c.args.d.now in
+    let holder = c.in-Some.holder in
+    IfOk-weaker c.step_aside.result _ _
+    (λ turn full told state S. full_aside holder (aside g c) (sym (owner g c)) (subst (λ w. FullAside w holder h (law_turn turn)) (before g c) (full told)))
+    c.step_aside.ensures.full

@@ -18,10 +18,12 @@ use Rattle.tdb_txn_owner.specs.declared.wanting.Wants.TheVariants as Wants
 use Rattle.tdb_openers.specs.Worlds.{BytesStand, IsNumber, Stands, World}
 use Rattle.tdb_openers.specs.declared.opener.Opener.{Opener}
 use Rattle.tdb_world.specs.Claims.{ClaimStands, IsSettled}
+use Rattle.tdb_world.specs.Room.{FullAside}
 use Rattle.tdb_world.specs.Steps.{TurnLeads}
 use Rattle.tdb_world.specs.Steps.HasCommand.{by_aside}
 use Rattle.tdb_world.specs.Whole.{Whole, WorldFits}
 use Rattle.tdb_world.proofs.ClaimUsed.{number_now, stood_now, used_fits, used_leads, C}
+use Rattle.tdb_world.proofs.Fullness.{used_full}
 use Rattle.tdb_world.proofs.Settled.{settled_world}
 use Rattle.tdb_world.proofs.Stopping.{still_leaves, used_safe, used_stops}
 use Rattle.tdb_world.proofs.all_openers.AllOpeners.claimed_turn.Given
@@ -169,3 +171,11 @@ returns-clause-busy g c = λ is.
     let left = goes_on c.in_ok-moved.moved.turn c.in_ok-moved.moved.holder c.in_ok-moved.ensures.goes_on (sym c.settle.ensures.turn ∙ is) in
     let busy = busy_task left.0.stage left.2 in
     by_aside left.0 busy.0 (c.settle.ensures.aside ∙ left.1) (sym (owner_at c.args.holder.owner c.in_ok-moved.moved.holder left.0 left.1 c.in_ok-moved.ensures.owner)) busy.1
+
+pub returns-clause-full : goal.returns-clause-full
+returns-clause-full g c = λ told before x S.
+    let old = g.D.Disk.history c.args.d.now in
+    let holder = c.args.holder in
+    subst (λ turn. FullAside (record (self g c) { openers = before; aside = Some holder }) holder old (law_turn turn)) (sym c.settle.ensures.turn)
+    (used_full (self g c) holder (img g c) (size g c) before x S old (g.D.Disk.history c.keep_number.new.d) c.keep_number.ensures.history
+    c.header.result.now c.options.result.now (header g c) (options g c) c.in_ok-moved.moved.turn (c.in_ok-moved.ensures.full told))

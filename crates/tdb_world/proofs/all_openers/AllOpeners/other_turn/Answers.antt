@@ -11,10 +11,15 @@ use Rattle.tdb_openers.proofs.ExplicitLocks.Aside.{on_one}
 use Rattle.tdb_world.specs.States.{IsStateOf}
 use Rattle.tdb_world.specs.Steps.{HasCommand, TurnLeads}
 use Rattle.tdb_world.specs.Steps.HasCommand.{by_job}
+use Rattle.tdb_world.specs.Room.EndsFullRightly.{full_in_file, full_never}
+use Rattle.tdb_world.specs.Room.StoresNothing.{is_shut_out}
 use Rattle.tdb_world.specs.Stops.{IsChanging, IsSafe}
 use Rattle.tdb_world.specs.Whole.{form_at, WorldFits}
-use Rattle.tdb_world.proofs.OtherTurns.{OnlyOne, open_fits, open_leads, put_openers, same_fits, shut_leads, still_among}
+use Rattle.tdb_txn_turns.proofs.Room.{never}
+use Rattle.tdb_world.proofs.OtherTurns.{OnlyOne, open_fits, open_leads, put_openers, same_fits, shut_leads, shut_not_full, still_among}
 use Rattle.tdb_world.proofs.Spared.{not_midway}
+use Rattle.tdb_world.proofs.Outside.{file_stands}
+use Rattle.std.proofs.lemmas.Result.{IfOk-weaker}
 use Rattle.tdb_world.proofs.Stopping.{still_leaves}
 use Rattle.tdb_world.proofs.all_openers.AllOpeners.other_turn.Given
 use Rattle.tdb_world.proofs.all_openers.AllOpeners.other_turn.Goals as goal
@@ -92,6 +97,32 @@ returns-in-None-clause-busy g c =
     (λ turn stands busy is. subst (λ z. HasCommand z c.args.who) (sym (put_openers old new E.rest))
     (let B = busy is in by_job B.0 B.1 B.2 c.requires.begun (still_among old new.openers c.args.who c.requires.named c.requires.among c.requires.begun K)))
     E.stands E.busy
+
+pub returns-in-Some-clause-full : goal.returns-in-Some-clause-full
+returns-in-Some-clause-full g c told state S =
+    let old = c.args.self.now in
+    let new = c.shut_out_turn.new.self in
+    let E = c.shut_out_turn.ensures in
+    let h = g.D.Disk.history c.args.d.now in
+    let x = c.requires.busy.0 in
+    let t = c.requires.busy.1 in
+    let B = c.requires.busy.2 in
+    let Z = c.in-Some.ensures.some in
+    let turn = law_turn c.shut_out_turn.result in
+    let K : OnlyOne old.openers new.openers (law_opener c.args.who) = record { header = E.header; options = E.options; joined = E.joined; others = E.others } in
+    full_never (is_shut_out c.requires.among Z.holder Z.aside Z.writes) (never turn
+    (shut_not_full old new.openers c.args.who x t turn (seen h) (g.D.Disk.size c.args.d.now) c.requires.named B c.requires.among c.requires.begun c.requires.fresh c.requires.fits K h c.in-Some.field-0.owner c.in-Some.field-0.bars Z
+    (λ img past s O. E.turned img past s x t B O) state S))
+
+pub returns-in-None-clause-full : goal.returns-in-None-clause-full
+returns-in-None-clause-full g c =
+    let old = c.args.self.now in
+    let h = g.D.Disk.history c.args.d.now in
+    let B = c.requires.busy in
+    IfOk-weaker c.turn_in_file.result _ _
+    (λ turn full told state S. full_in_file B.0 B.1 (record { busy = B.2; among = c.requires.among; begun = c.requires.begun; open_to = c.in-None.ensures.none })
+    (full told (file_stands old h state c.requires.fresh c.in-None.ensures.none S) B.0 B.1 B.2))
+    c.turn_in_file.ensures.full
 
 pub returns-in-Some-clause-stops : goal.returns-in-Some-clause-stops
 returns-in-Some-clause-stops g c told state S safe never =

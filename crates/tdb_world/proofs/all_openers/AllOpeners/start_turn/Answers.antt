@@ -2,7 +2,7 @@
 use Rattle.std.proofs.Common.{◌≡◌, ◌≤◌, ℕ, ◌+◌, [], false, slice_set, Option, Some, None, is_some, refl, sym, ◌∙◌, ap, subst, arith}
 use Rattle.std.proofs.Common.{Ok, Err}
 use Rattle.std.specs.Prelude.{Result, IfOk, IsTrue}
-use Rattle.std.proofs.lemmas.Result.{on_ok_weaker}
+use Rattle.std.proofs.lemmas.Result.{IfOk-weaker, on_ok_weaker}
 use Rattle.tdb_disk.specs.History.{seen, History}
 use Rattle.tdb_disk.specs.Stop.{LeavesOnly}
 use Rattle.tdb_law.specs.World.{State}
@@ -13,8 +13,12 @@ use Rattle.tdb_txn_owner.specs.declared.stage.Stage.TheVariants as At
 use Rattle.tdb_commands.specs.InLaw.{law_opener, law_turn}
 use Rattle.tdb_world.specs.States.{IsStateOf}
 use Rattle.tdb_world.specs.Steps.{HasCommand, TurnLeads, with_aside}
+use Rattle.tdb_world.specs.Room.EndsFullRightly.{full_never}
+use Rattle.tdb_world.specs.Room.StoresNothing.{has_start}
 use Rattle.tdb_world.specs.Stops.{IsSafe, TurnMayLeave}
 use Rattle.tdb_world.specs.Whole.{form_at, Whole, WorldFits}
+use Rattle.tdb_txn_turns.proofs.Room.{never}
+use Rattle.tdb_world.proofs.Fullness.{start_full}
 use Rattle.tdb_world.proofs.OwnStart.{aside_fits, goes_aside}
 use Rattle.tdb_world.proofs.Stopping.{still_leaves}
 use Rattle.tdb_world.proofs.all_openers.AllOpeners.start_turn.Given
@@ -113,3 +117,16 @@ returns-clause-safe g c =
     (λ keeps told state S safe. subst (λ f. IsSafe f (g.D.Disk.history c.step_aside.new.d)) (form g c)
     (keeps told state (aside_state g c state S) (subst (λ f. IsSafe f (h g c)) (sym (form g c)) safe)))
     c.step_aside.ensures.safe
+
+pub returns-then-is_some-clause-full : goal.returns-then-is_some-clause-full
+returns-then-is_some-clause-full g c = λ told state S.
+    full_never (has_start c.requires.among c.requires.begun) (never (law_turn c.barred_start.result) c.barred_start.ensures.full)
+
+pub returns-clause-full : goal.returns-clause-full
+returns-clause-full g c =
+    let h = g.D.Disk.history c.args.d.now in
+    let holder = c.start-holder.result in
+    IfOk-weaker c.step_aside.result _ _
+    (λ turn full told state S. full_never (has_start c.requires.among c.requires.begun)
+    (start_full (with_aside c.drop_start.new.self holder) h (law_turn turn) holder Starts.Begun (ap (λ (z : HolderState). z.stage) c.start-holder.ensures) refl (full told) state (aside_state g c state S)))
+    c.step_aside.ensures.full

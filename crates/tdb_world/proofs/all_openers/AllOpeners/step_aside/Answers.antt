@@ -15,9 +15,11 @@ use Rattle.tdb_world.specs.contracts.all_openers.AllOpeners.{the_view}
 use Rattle.tdb_world.specs.Claims.{Claimed, ClaimStands, IsBarred}
 use Rattle.tdb_world.specs.States.{IsStateOf}
 use Rattle.tdb_world.specs.Steps.{with_aside, TurnLeads}
+use Rattle.tdb_world.specs.Room.{FullAside}
 use Rattle.tdb_world.specs.Stops.{IsSafe, TurnMayLeave}
 use Rattle.tdb_world.specs.Whole.{form_at, options_at, Whole, WorldFits}
 use Rattle.tdb_world.proofs.Fitting.{fits_starved}
+use Rattle.tdb_world.proofs.Fullness.{blocked_full, starved_full}
 use Rattle.tdb_world.proofs.Settled.{claim_stands}
 use Rattle.tdb_world.proofs.Stopping.{still_leaves}
 use Rattle.tdb_world.proofs.TurnsLead.{blocked_leads, starved_leads}
@@ -145,3 +147,21 @@ pub returns-in-Blocked-clause-syncs : goal.returns-in-Blocked-clause-syncs
 returns-in-Blocked-clause-syncs g c =
     let wants = barred_records c.self.inside.openers c.owner-who.result c.in-Blocked.owner c.in-Blocked.byte c.wants-wants.result (c.in-Blocked.ensures.blocked c.in-Blocked.owner c.in-Blocked.byte refl) in
     records_still c.args.holder.stage wants.0 (g.D.Disk.syncs c.args.d.now) (sym c.wants-wants.ensures.stage ∙ wants.1)
+
+pub returns-in-Taken-clause-full : goal.returns-in-Taken-clause-full
+returns-in-Taken-clause-full g c =
+    IfOk-weaker c.claimed_turn.result _ _
+    (λ turn full told. subst (λ w. FullAside (with_aside w c.args.holder) c.args.holder (g.D.Disk.history c.args.d.now) (law_turn turn)) c.self.view_is
+    (full told c.self.inside.openers (F g c).aside.opener (stands g c)))
+    c.claimed_turn.ensures.full
+
+pub returns-in-Blocked-clause-full : goal.returns-in-Blocked-clause-full
+returns-in-Blocked-clause-full g c = λ told.
+    let wants = barred_records c.self.inside.openers c.owner-who.result c.in-Blocked.owner c.in-Blocked.byte c.wants-wants.result (c.in-Blocked.ensures.blocked c.in-Blocked.owner c.in-Blocked.byte refl) in
+    blocked_full (with_aside c.args.self.now c.args.holder) c.args.holder (g.D.Disk.history c.args.d.now) wants.0 (sym c.wants-wants.ensures.stage ∙ wants.1) (law_opener c.in-Blocked.owner) c.in-Blocked.byte
+
+pub returns-in-Starved-clause-full : goal.returns-in-Starved-clause-full
+returns-in-Starved-clause-full g c = λ told.
+    let w = with_aside c.args.self.now c.args.holder in
+    let history = g.D.Disk.history c.args.d.now in
+    subst (FullAside w c.args.holder history) (sym (ap law_turn c.starve.ensures.turn)) (starved_full w c.args.holder history)

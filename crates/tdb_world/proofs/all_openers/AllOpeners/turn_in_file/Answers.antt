@@ -5,6 +5,7 @@ use Rattle.tdb_disk.specs.History.{seen}
 use Rattle.tdb_space.specs.Form.{form_in}
 use Rattle.tdb_locks.specs.declared.turn.Turn.{Turn}
 use Rattle.tdb_law.specs.Turned.{Turned}
+use Rattle.tdb_steps.specs.Room.{FullAtTake}
 use Rattle.tdb_commands.specs.InLaw.{law_opener, law_turn}
 use Rattle.tdb_openers.specs.Worlds.{World, law_of_task, state_in, BytesStand, IsBusy}
 use Rattle.tdb_openers.specs.declared.job.Task.{Task}
@@ -26,3 +27,13 @@ returns-clause-turned g c =
     subst (λ z. Turns c.turn.result (IsTrue g.D.Disk.tells) z (seen (g.D.Disk.history c.args.d.now)) c.args.who c.turn.new.self (seen (g.D.Disk.history c.d-1.given.0))) is
     (subst (λ y. Turns c.turn.result (IsTrue g.D.Disk.tells) c.self.inside.openers y c.args.who c.turn.new.self (seen (g.D.Disk.history c.d-1.given.0))) a
     (subst (λ y. Turns c.turn.result (IsTrue g.D.Disk.tells) c.self.inside.openers (seen (g.D.Disk.history c.new-view.result.disk.now)) c.args.who c.turn.new.self y) b c.turn.ensures.turned))
+
+abbrev Fulls : {E : Type 0} → Result Turn E → Type 0 → World → List ℕ → ℕ → Type 0
+Fulls r tells z a who = IfOk r (λ turn. tells → BytesStand z a → (x : Opener) (t : Task) → IsBusy z who x t → FullAtTake (form_in z.header) a z.options.limit (law_of_task t) (law_turn turn))
+
+pub returns-clause-full : goal.returns-clause-full
+returns-clause-full g c =
+    let is = ap (λ (z : Whole). z.openers) c.self.view_is in
+    let a = ap (λ d. seen (g.D.Disk.history d)) c.new-view.ensures.disk in
+    subst (λ z. Fulls c.turn.result (IsTrue g.D.Disk.tells) z (seen (g.D.Disk.history c.args.d.now)) c.args.who) is
+    (subst (λ y. Fulls c.turn.result (IsTrue g.D.Disk.tells) c.self.inside.openers y c.args.who) a c.turn.ensures.full)
