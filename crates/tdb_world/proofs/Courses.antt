@@ -1,4 +1,5 @@
 -- Lemmas on plays in a world, the report of them, and what stops leave.
+pub mod Calling
 pub mod Leading
 pub mod Stopping
 pub mod Standings

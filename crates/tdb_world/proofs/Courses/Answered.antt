@@ -17,6 +17,9 @@ use Rattle.tdb_world.specs.Whole.{Whole, WorldFits}
 use Rattle.tdb_world.specs.States.{IsStateOf}
 use Rattle.tdb_world.specs.Courses.Led.{Lengths, moment, Led}
 use Rattle.tdb_world.specs.Courses.Told.{PlayLed, GivesLine, IsAnswered, Gifted}
+use Rattle.tdb_world.specs.Courses.Calls.{TellsNoCall}
+use Rattle.tdb_world.specs.Courses.Calls.Calls.{calls_nothing}
+use Rattle.tdb_world.proofs.Courses.Calling.{answer_quiet, told_none, told_one}
 use Rattle.tdb_world.proofs.Courses.Leading.{led_whole, led_fault}
 
 -- a play that is answered by a line, where there was memory for it
@@ -32,6 +35,7 @@ answered tells w h size faults play line old new W A short (Ok v) told kept memo
   fits = W;
   quiet = refl;
   told = λ tell state is. (state, is, gives_answer (law_line line) refl refl (A h state is));
+  calls = λ tell state is. told_one _ _ _ _ w h (record { header = refl; options = refl }) (calls_nothing (answer_quiet state play line (A h state is), tt) refl (λ s S. (s, S))) (refl, refl);
   rose = λ tell state is. tt;
 }
 answered tells w h size faults play line old new W A short (Err Memory) told kept memory = record {
@@ -44,6 +48,7 @@ answered tells w h size faults play line old new W A short (Err Memory) told kep
   fits = W;
   quiet = refl;
   told = λ tell state is. (state, is, begun_not refl refl);
+  calls = λ tell state is. told_none _ _ _ refl refl;
   rose = λ tell state is. tt;
 }
 answered tells w h size faults play line old new W A short (Err Io) told kept memory = absurd (cc memory)
@@ -61,14 +66,15 @@ memory_led tells w h size faults old new Memory All Part Last memory W lines par
   fits = W;
   quiet = refl;
   told = λ told state is. (state, is, part state);
+  calls = λ told state is. told_none _ _ _ refl refl;
   rose = λ told state is. tt;
 }
 memory_led tells w h size faults old new Io All Part Last memory W lines part = absurd (cc memory)
 
 -- a play that is taken, and gives one line
 pub line_led : (tells : Bool) (w v : Whole) (h : History) (size faults : ℕ) (play : LawPlay) (line : Line) (old new : List Line) → v.openers.header ≡ w.openers.header → v.openers.options ≡ w.openers.options
-    → WorldFits v (seen h) size → GivesLine w v play line → Lengths size (line ∷ []) size → new ≡ old ++ line ∷ [] → PlayLed {V = Unit {0}} tells (moment w h size faults old) (moment v h size faults new) (Ok tt) play
-line_led tells w v h size faults play line old new header options W gives short lines = record {
+    → WorldFits v (seen h) size → GivesLine w v play line → ((k : History) (state : State) → IsStateOf w k state → TellsNoCall line) → Lengths size (line ∷ []) size → new ≡ old ++ line ∷ [] → PlayLed {V = Unit {0}} tells (moment w h size faults old) (moment v h size faults new) (Ok tt) play
+line_led tells w v h size faults play line old new header options W gives quiet short lines = record {
   header = header;
   options = options;
   rises = le_refl faults;
@@ -78,6 +84,7 @@ line_led tells w v h size faults play line old new header options W gives short 
   fits = W;
   quiet = refl;
   told = λ told state is. gives h state is;
+  calls = λ told state is. told_one _ _ _ _ v h (record { header = header; options = options }) (calls_nothing (quiet h state is, tt) refl (λ s S. (let J = gives h s S in (J.0, J.1)))) (refl, refl);
   rose = λ told state is. tt;
 }
 
@@ -98,6 +105,7 @@ gift_led tells w v h size faults who c lines W (Ok u) G kept memory = record {
   fits = G.fits (seen h) size W;
   quiet = refl;
   told = λ told state is. (let J = G.given h state is in (J.0, J.1, (refl, J.2)));
+  calls = λ told state is. told_one _ _ _ _ v h (record { header = G.header; options = G.options }) (calls_nothing tt refl (λ s S. (let J = G.given h s S in (J.0, J.1)))) (refl, refl);
   rose = λ told state is. tt;
 }
 gift_led tells w v h size faults who c lines W (Err Memory) G kept memory = record {
@@ -110,6 +118,7 @@ gift_led tells w v h size faults who c lines W (Err Memory) G kept memory = reco
   fits = subst (λ z. WorldFits z (seen h) size) (sym kept) W;
   quiet = refl;
   told = λ told state is. (state, subst (λ z. IsStateOf z h state) (sym kept) is, (refl, refl));
+  calls = λ told state is. told_none _ _ _ kept refl;
   rose = λ told state is. tt;
 }
 gift_led tells w v h size faults who c lines W (Err Io) G kept memory = absurd (cc memory)

@@ -16,6 +16,7 @@ use Rattle.tdb_openers.specs.declared.fault.RunFault.{RunFault}
 use Rattle.tdb_openers.specs.declared.fault.RunFault.TheVariants.{Io, Memory}
 use Rattle.tdb_world.specs.Whole.{Whole, WorldFits}
 use Rattle.tdb_world.specs.Courses.Led.{Lengths, Moment, moment, IsStateAt, Led}
+use Rattle.tdb_world.proofs.Courses.Calling.{told_fault, told_join, told_none, told_whole}
 
 -- lengths that lines tell
 pub lengths_join : (front rest : List Line) (from mid to : ℕ) → Lengths from front mid → Lengths mid rest to → Lengths from (front ++ rest) to
@@ -49,6 +50,7 @@ led_none tells m v All Part Last fits whole = record {
   fits = fits;
   quiet = refl;
   told = λ told state is. (state, is, whole state is);
+  calls = λ told state is. told_none m m (Ok v) refl refl;
   rose = λ told state is. tt;
 }
 
@@ -70,6 +72,7 @@ module _ {V W : Type 0} (tells : Bool) (old new : Moment) (WA : State → V → 
     fits = A.fits;
     quiet = A.quiet;
     told = λ told state is. (let end = A.told told state is in (end.0, end.1, whole state (law_lines A.added) end.0 is end.2));
+    calls = λ told state is. told_whole old new v w A.added (A.calls told state is);
     rose = A.rose;
   }
 
@@ -85,6 +88,7 @@ module _ {V W : Type 0} (tells : Bool) (old new : Moment) (WA : State → V → 
     fits = A.fits;
     quiet = A.quiet;
     told = λ told state is. (let end = A.told told state is in (end.0, end.1, part state (law_lines A.added) end.0 is end.2));
+    calls = λ told state is. told_fault old new Memory A.added (A.calls told state is);
     rose = A.rose;
   }
   led_fault Io A part last = record {
@@ -97,6 +101,7 @@ module _ {V W : Type 0} (tells : Bool) (old new : Moment) (WA : State → V → 
     fits = A.fits;
     quiet = A.quiet;
     told = λ told state is. (let end = A.told told state is in (end.0, last state (law_lines A.added) end.0 is end.1));
+    calls = λ told state is. told_fault old new Io A.added (A.calls told state is);
     rose = A.rose;
   }
 
@@ -119,6 +124,7 @@ module _ {U V : Type 0} (tells : Bool) (old mid new : Moment) (u : U) (WA : Stat
     told = λ told state is. (let one = A.told told state is in
         let two = B.told told one.0 one.1 in
         (two.0, two.1, subst (λ ls. WC state v ls two.0) (sym (map-append law_line A.added B.added)) (whole state one.0 v (law_lines A.added) (law_lines B.added) two.0 is one.2 two.2)));
+    calls = λ told state is. (let one = A.told told state is in told_join old mid new u (Ok v) A.added B.added (A.calls told state is) (B.calls told one.0 one.1));
     rose = λ told state is. tt;
   }
   led_join (Err Memory) B whole part last = record {
@@ -133,6 +139,7 @@ module _ {U V : Type 0} (tells : Bool) (old mid new : Moment) (u : U) (WA : Stat
     told = λ told state is. (let one = A.told told state is in
         let two = B.told told one.0 one.1 in
         (two.0, two.1, subst (λ ls. PC state ls two.0) (sym (map-append law_line A.added B.added)) (part state one.0 (law_lines A.added) (law_lines B.added) two.0 is one.2 two.2)));
+    calls = λ told state is. (let one = A.told told state is in told_join old mid new u (Err Memory) A.added B.added (A.calls told state is) (B.calls told one.0 one.1));
     rose = λ told state is. tt;
   }
   led_join (Err Io) B whole part last = record {
@@ -147,5 +154,6 @@ module _ {U V : Type 0} (tells : Bool) (old mid new : Moment) (u : U) (WA : Stat
     told = λ told state is. (let one = A.told told state is in
         let two = B.told told one.0 one.1 in
         (two.0, subst (λ ls. LC state ls two.0) (sym (map-append law_line A.added B.added)) (last state one.0 (law_lines A.added) (law_lines B.added) two.0 is one.2 two.1)));
+    calls = λ told state is. (let one = A.told told state is in told_join old mid new u (Err Io) A.added B.added (A.calls told state is) (B.calls told one.0 one.1));
     rose = λ told state is. (let one = A.told told state is in subst (λ n. Rose n new.faults) A.quiet (B.rose told one.0 one.1));
   }

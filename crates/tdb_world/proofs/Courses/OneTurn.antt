@@ -34,6 +34,10 @@ use Rattle.tdb_world.proofs.Reopening.{state_reopens}
 use Rattle.tdb_world.specs.Courses.Led.{Moment, moment, IsStateAt, Led}
 use Rattle.tdb_world.specs.Courses.Stops.{ToldWhereTaken}
 use Rattle.tdb_world.specs.Courses.Turns.{IsToldOf, Never, TakesOrClears}
+use Rattle.tdb_world.specs.Room.{FullOfTurn}
+use Rattle.tdb_world.specs.Courses.Calls.{StaysFormed}
+use Rattle.tdb_world.specs.Courses.Calls.Calls.{calls_turn, calls_undo}
+use Rattle.tdb_world.proofs.Courses.Calling.{growth_quiet, told_failed, told_none, told_one}
 use Rattle.tdb_world.proofs.Courses.Leading.{growth_grows, led_join, led_fault}
 use Rattle.tdb_world.proofs.Courses.Courses.{clear_takes, clear_last}
 
@@ -71,6 +75,7 @@ nothing_led tells w h g size longer before now old new Memory All Last same equa
   fits = subst (λ z. WorldFits w (seen z) longer) (sym same) (subst (WorldFits w (seen h)) (sym equal) W);
   quiet = cause.refused (λ e. cc);
   told = λ told state is. (state, subst (λ z. IsStateOf w z state) (sym same) is, (refl, refl));
+  calls = λ told state is. told_none _ _ _ refl same;
   rose = λ told state is. tt;
 }
 nothing_led tells w h g size longer before now old new Io All Last same equal lines W cause last = record {
@@ -83,6 +88,7 @@ nothing_led tells w h g size longer before now old new Io All Last same equal li
   fits = tt;
   quiet = tt;
   told = λ told state is. (state, last state);
+  calls = λ told state is. told_failed _ _;
   rose = λ told state is. cause.failed refl;
 }
 
@@ -100,6 +106,7 @@ failed_led tells w v h g size longer before now old new All Part Last rises line
   fits = tt;
   quiet = tt;
   told = λ told state is. (state, last state);
+  calls = λ told state is. told_failed _ _;
   rose = rose;
 }
 
@@ -117,6 +124,7 @@ undone_led answer tells w v h g size shorter before now bytes to old new world l
   fits = W;
   quiet = quiet;
   told = λ told state is. (let J = undoes told state is in (J.0, J.1, clears_gate bytes to refl J.2));
+  calls = λ told state is. told_one _ _ _ _ v g (record { header = ap (λ (z : Whole). z.openers.header) world; options = ap (λ (z : Whole). z.openers.options) world }) (calls_undo bytes to refl (undoes told)) (refl, refl);
   rose = λ told state is. tt;
 }
 
@@ -140,18 +148,22 @@ takes_one f old new who Turns.Step lines A = A
 takes_one f old new who (Turns.Blocked o b) lines A = (law_turn (Turns.Blocked o b), tt, A)
 takes_one f old new who (Turns.Done r) lines A = (law_turn (Turns.Done r), tt, A)
 
-module _ (tells : Bool) (w v : Whole) (h g : History) (from before who : ℕ) (command : Command) (turn : Turn) (old new : List Line) (turned : IsTrue tells → TurnLeads w v h g who (law_turn turn)) where
+module _ (tells : Bool) (w v : Whole) (h g : History) (from before who : ℕ) (command : Command) (turn : Turn) (old new : List Line) (turned : IsTrue tells → TurnLeads w v h g who (law_turn turn))
+    (full : IsTrue tells → FullOfTurn w h who (law_turn turn)) (header : v.openers.header ≡ w.openers.header) (options : v.openers.options ≡ w.openers.options) where
   takes : (grown : List Line) → Grows (law_lines grown) → IsTrue tells → (state : State) → IsStateOf w h state → (after : State) × IsStateOf v g after
       × (IsToldOf state (law_opener who) (law_command command) → TakesOne (form_at w) state (law_opener who) (is_step turn) (law_lines (Lines.Took who command turn ∷ grown)) after)
   takes grown G told state is =
       let J = turned told state is in
       (J.0, J.2, λ mine. takes_one (form_at w) state J.0 (law_opener who) turn _ (advance (form_at w) state J.0 who J.1 command turn grown (mine J.1 J.3.mine) G J.3))
 
-  pub took_led : (to now : ℕ) (Part Last : State → List LawLine → State → Type 0) → v.openers.header ≡ w.openers.header → v.openers.options ≡ w.openers.options → from ≤ to → now ≡ before → WorldFits v (seen g) to
+  formed : StaysFormed w v
+  formed = record { header = header; options = options }
+
+  pub took_led : (to now : ℕ) (Part Last : State → List LawLine → State → Type 0) → from ≤ to → now ≡ before → WorldFits v (seen g) to
       → new ≡ (old ++ Lines.Took who command turn ∷ []) ++ growth from to
       → Led tells (moment w h from before old) (moment v g to now new) (Ok (is_step turn))
       (λ state more lines z. IsToldOf state (law_opener who) (law_command command) → TakesOne (form_at w) state (law_opener who) more lines z) Part Last
-  took_led to now Part Last header options longer quiet W lines = record {
+  took_led to now Part Last longer quiet W lines = record {
     header = header;
     options = options;
     rises = (let e = quiet in omega (arith, e));
@@ -161,6 +173,7 @@ module _ (tells : Bool) (w v : Whole) (h g : History) (from before who : ℕ) (c
     fits = W;
     quiet = quiet;
     told = takes (growth from to) (growth_grows from to longer).0;
+    calls = λ told state is. told_one _ _ _ _ v g formed (calls_turn who command turn (growth from to) refl (growth_quiet from to) (turned told) (full told)) (refl, refl);
     rose = λ told state is. tt;
   }
 
@@ -179,13 +192,14 @@ module _ (tells : Bool) (w v : Whole) (h g : History) (from before who : ℕ) (c
     fits = tt;
     quiet = tt;
     told = λ told state is. (let T = takes [] (grows_not refl) told state is in (T.0, λ mine. inr (is_step turn, T.2 mine)));
+    calls = λ told state is. told_one _ _ _ _ v g formed (calls_turn who command turn [] refl tt (turned told) (full told)) tt;
     rose = rose;
   }
 
   -- so it is told, though it isn't answered
-  pub took_told : v.openers.header ≡ w.openers.header → (z : History) → z ≡ g → new ≡ old ++ Lines.Took who command turn ∷ [] → IsTrue tells → (state : State) → IsStateOf w h state → IsSafe (form_at w) g
+  pub took_told : (z : History) → z ≡ g → new ≡ old ++ Lines.Took who command turn ∷ [] → IsTrue tells → (state : State) → IsStateOf w h state → IsSafe (form_at w) g
       → ToldWhereTaken (form_at w) state (law_opener who) (law_command command) z old new
-  took_told header z same lines told state is safe =
+  took_told z same lines told state is safe =
       let T = takes [] (grows_not refl) told state is in
       let reads : IsReadAs (form_at w) (seen g) T.0 = subst (λ k. IsReadAs (form_in k) (seen g) T.0) header (state_reopens v g T.0 T.1) in
       inr (T.0, is_step turn, Lines.Took who command turn ∷ [], lines, T.2, subst (λ u. IsReadAs (form_at w) (seen u) T.0) (sym same) reads, subst (IsSafe (form_at w)) (sym same) safe)

@@ -12,6 +12,7 @@ use Rattle.tdb_openers.specs.declared.fault.RunFault.{RunFault}
 use Rattle.tdb_openers.specs.declared.fault.RunFault.TheVariants.{Io, Memory}
 use Rattle.tdb_world.specs.Whole.{Whole, WorldFits}
 use Rattle.tdb_world.specs.States.{IsStateOf}
+use Rattle.tdb_world.specs.Courses.Calls.{CallsTell}
 
 -- A moment of a play: the world, the history and the length of its file, the count of faults of the disk, and the lines
 -- of the report.
@@ -45,9 +46,17 @@ Comes (Ok v) IsLeft Whole Part Last lines = (after : State) × IsLeft after × W
 Comes (Err Memory) IsLeft Whole Part Last lines = (after : State) × IsLeft after × Part lines after
 Comes (Err Io) IsLeft Whole Part Last lines = (left : State) × Last lines left
 
+-- Lines tell the calls that led from one moment to another; where the disk failed, those in front of the failed one.
+pub record ToldCalls {V : Type 0} (old new : Moment) (answer : Result V RunFault) (lines : List Line) : Type 0 where
+  pub count : ℕ
+  pub world : Whole
+  pub history : History
+  pub calls : CallsTell count old.world old.history lines world history
+  pub last : UnlessIo answer ((new.world ≡ world) × (new.history ≡ history))
+
 -- What leads from one moment to another, with this answer, over a disk that tells its bytes or doesn't: lines were
--- added, which tell from each state of the world what was done, and each growth of the file. Unless the disk failed the
--- world stands, and its count of faults is as it was.
+-- added, which tell from each state of the world what was done, each call, and each growth of the file. Unless the disk
+-- failed the world stands, and its count of faults is as it was.
 pub record Led {V : Type 0} (tells : Bool) (old new : Moment) (answer : Result V RunFault) (Whole : State → V → List LawLine → State → Type 0)
     (Part : State → List LawLine → State → Type 0) (Last : State → List LawLine → State → Type 0) : Type 0 where
   pub header : UnlessIo answer (new.world.openers.header ≡ old.world.openers.header)
@@ -59,4 +68,5 @@ pub record Led {V : Type 0} (tells : Bool) (old new : Moment) (answer : Result V
   pub fits : UnlessIo answer (WorldFits new.world (seen new.history) new.size)
   pub quiet : UnlessIo answer (new.faults ≡ old.faults)
   pub told : IsTrue tells → (state : State) → IsStateAt old state → Comes answer (IsStateAt new) (Whole state) (Part state) (Last state) (law_lines added)
+  pub calls : IsTrue tells → (state : State) → IsStateAt old state → ToldCalls old new answer added
   pub rose : IsTrue tells → (state : State) → IsStateAt old state → OnIo answer (Rose old.faults new.faults)

@@ -41,7 +41,7 @@ pub returns-then-may_die : goal.returns-then-may_die
 returns-then-may_die c = record {
   led = λ tells h size faults W.
       line_led tells c.args.world.now c.die.new.self h size faults (LawPlay.Die (law_opener c.args.who)) (Lines.Died c.args.who) c.args.report.now.lines c.put_line.new.report.lines c.die.ensures.header c.die.ensures.options
-      (c.die.ensures.fits (seen h) size W) (λ g state is. (let J = c.die.ensures.dies g state is in (J.0, J.1, gives_death (law_opener c.args.who) refl refl J.2))) refl
+      (c.die.ensures.fits (seen h) size W) (λ g state is. (let J = c.die.ensures.dies g state is in (J.0, J.1, gives_death (law_opener c.args.who) refl refl J.2))) (λ k state is. tt) refl
       (c.put_line.ensures.lines ∙ ap (λ ls. ls ++ Lines.Died c.args.who ∷ []) c.in_ok-reserve.ensures.lines);
 }
 

@@ -86,7 +86,7 @@ returns-clause-led g c command front =
     (same_moment w (g.D.Disk.history c.args.d.now) h (g.D.Disk.size c.args.d.now) from (g.D.Disk.faults c.args.d.now) before front front c.length_of.ensures.history c.length_of.ensures.size c.in_ok-from.ensures.cause.done refl)
     (led_whole g.D.Disk.tells old new _ Never Never _ _ _ (is_step turn) measured
     (took_led g.D.Disk.tells w v h z from before c.args.who command turn front all (λ told. subst (λ u. TurnLeads w v h u c.args.who (law_turn turn)) (sym c.length_of-2.ensures.history) (c.in_ok-turn.ensures.turned told))
-    to now _ _ c.in_ok-turn.ensures.header c.in_ok-turn.ensures.options (omega (arith, longer, kept)) (c.in_ok-to.ensures.cause.done ∙ c.in_ok-turn.ensures.done)
+    c.in_ok-turn.ensures.full c.in_ok-turn.ensures.header c.in_ok-turn.ensures.options to now _ _ (omega (arith, longer, kept)) (c.in_ok-to.ensures.cause.done ∙ c.in_ok-turn.ensures.done)
     (subst (λ u. WorldFits v (seen u) to) (sym c.length_of-2.ensures.history) (subst (WorldFits v (seen (g.D.Disk.history c.turn.new.d))) (sym kept) c.in_ok-turn.ensures.fits)) lines) (λ state lines z is T. T))
 
 pub returns-in_err-from-clause-stops : goal.returns-in_err-from-clause-stops
