@@ -10,6 +10,7 @@ use tdb_backup::{
 };
 use tdb_disk::{Call, MemDisk, MemSink, MemSource};
 use tdb_dump::{Listing, push_pair};
+use tdb_log::Log;
 use tdb_space::Direct;
 
 // How long a file may be where nothing else is said.
@@ -140,7 +141,8 @@ fn restore(
     limit: u64,
 ) -> Result<(), RestoreRefusal> {
     let mut s = Direct::new(disk, &HEADER);
-    restore_pairs(alloc, input, &mut s, limit.min(MOST))
+    let logs: &mut Vec<Box<dyn Log>> = &mut Vec::new(alloc);
+    restore_pairs(alloc, input, &mut s, limit.min(MOST), logs)
 }
 
 /// What is otherwise where a file of several pairs is copied.
@@ -148,11 +150,13 @@ fn failing_copy(alloc: Global) -> Result<Option<&'static str>, AllocError> {
     let mut disk = empty_file(alloc)?;
     let restored = restore(alloc, &mut MemSource::new(alloc, TEXT)?, &mut disk, MOST);
     let mut copy = empty_file(alloc)?;
+    let logs: &mut Vec<Box<dyn Log>> = &mut Vec::new(alloc);
     let copied = copy_pairs(
         alloc,
         &mut Direct::new(&mut disk, &HEADER),
         &mut Direct::new(&mut copy, &HEADER),
         MOST,
+        logs,
     );
     Ok(first_false(&[
         ("a file of several pairs", restored == Ok(())),

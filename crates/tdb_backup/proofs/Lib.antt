@@ -4,5 +4,6 @@ pub mod Dumped
 pub mod Inserting
 pub mod Rooms
 mod Prepending
+mod Growths
 mod Building
-mod Restored
+pub mod Restored

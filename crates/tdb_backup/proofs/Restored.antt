@@ -17,14 +17,17 @@ use Rattle.tdb_dump.specs.Spelled as Dumps
 use Rattle.tdb_dump.specs.Spelled.{IsRecord, Spelled, Dump}
 use Rattle.tdb_dump.specs.BadAt.{BadAt, BeginsWith}
 use Rattle.tdb_dump.specs.Taken.{RefusedAt, EndsBadlyAt, Took, shown}
+use Rattle.tdb_log.specs.Logs.{Logged, ToldAll}
 use Rattle.tdb_space.specs.Form.{Form}
 use Rattle.tdb_space.specs.Pairs.{same_key}
-use Rattle.tdb_backup.specs.declared.refusal.InsertRefusal.{InsertRefusal}
+use Rattle.tdb_backup.specs.declared.refusal.AddRefusal.{AddRefusal}
+use Rattle.tdb_backup.specs.declared.refusal.AddRefusal.TheVariants as Add
 use Rattle.tdb_backup.specs.declared.refusal.InsertRefusal.TheVariants as Insert
-use Rattle.tdb_backup.specs.declared.refusal.RestoreRefusal.TheVariants.{Malformed, Input, Io}
+use Rattle.tdb_backup.specs.declared.refusal.RestoreRefusal.TheVariants.{Input, Io}
 use Rattle.tdb_backup.specs.declared.restoring.TheConstants.{LONGEST_TEXT}
-use Rattle.tdb_backup.specs.Building.{HoldsPairs, CopyCause, of_insert}
-use Rattle.tdb_backup.specs.Restoring.{keys_and_values, IsShort, Restored, HoldsSome, RestoreCause, WentOn, of_text, of_pair}
+use Rattle.tdb_backup.specs.Building.{HoldsPairs, BackupRefused, of_added}
+use Rattle.tdb_backup.specs.Growths.{CopyHeard, growths_of}
+use Rattle.tdb_backup.specs.Restoring.{keys_and_values, IsShort, Restored, HoldsSome, RestoreCause, StopsAt, TextHeard, ToldSome, WentOn, of_added_pair, of_text}
 use Rattle.tdb_backup.proofs.Building.{NextPair, key_is_new}
 
 -- ---- the pairs of a text
@@ -83,11 +86,18 @@ pair_next before pairs i p low is distinct =
       new = key_is_new (keys_and_values front) (p.key, p.value) (keys_and_values back) (subst (λ ps. IsDistinct same_key (keys_of ps)) split distinct);
     }
 
--- a pair wasn't added
-pub pair_refused : (first : List ℕ) (f : Form) (img text : List ℕ) (pairs : List Pair) (limit : ℕ) (e : InsertRefusal) → BeginsWith text pairs → CopyCause first f img (keys_and_values pairs) limit (of_insert e) → RestoreCause first f img text limit (of_pair e)
-pair_refused first f img text pairs limit (Insert.Full len need) begins cause = (pairs, begins, cause)
-pair_refused first f img text pairs limit Insert.Io begins cause = tt
-pair_refused first f img text pairs limit Insert.Memory begins cause = (pairs, begins, cause)
+-- a pair wasn't added, or wasn't told of
+pub pair_refused : (first : List ℕ) (f : Form) (img text : List ℕ) (pairs : List Pair) (limit : ℕ) (e : AddRefusal) → BeginsWith text pairs → BackupRefused first f img (keys_and_values pairs) limit (of_added e) → RestoreCause first f img text limit (of_added_pair e)
+pair_refused first f img text pairs limit (Add.Insert (Insert.Full len need)) begins cause = (pairs, begins, cause)
+pair_refused first f img text pairs limit (Add.Insert Insert.Io) begins cause = tt
+pair_refused first f img text pairs limit (Add.Insert Insert.Memory) begins cause = (pairs, begins, cause)
+pair_refused first f img text pairs limit (Add.Log refusal) begins cause = (pairs, begins, cause)
+
+pub pair_heard : (limit : ℕ) (first : List ℕ) (f : Form) (text : List ℕ) (pairs : List Pair) (old new : List Logged) (e : AddRefusal) → BeginsWith text pairs → CopyHeard limit f first (keys_and_values pairs) old new (of_added e) → TextHeard limit f first text old new (of_added_pair e)
+pair_heard limit first f text pairs old new (Add.Insert (Insert.Full len need)) begins heard = (pairs, begins, heard)
+pair_heard limit first f text pairs old new (Add.Insert Insert.Io) begins heard = (pairs, begins, heard)
+pair_heard limit first f text pairs old new (Add.Insert Insert.Memory) begins heard = (pairs, begins, heard)
+pair_heard limit first f text pairs old new (Add.Log refusal) begins heard = (pairs, begins, heard)
 
 -- ---- piece by piece
 
@@ -96,18 +106,23 @@ pub holds_given : (limit : ℕ) (first : List ℕ) (f : Form) (img text more : L
 holds_given limit first f img text more pairs begins holds =
     (pairs, begun_more text more pairs begins, record { given = keys_and_values pairs; rest = []; split = sym (append-nil (keys_and_values pairs)); holds = holds })
 
+-- and logs heard of all growths by them
+pub told_given : (limit : ℕ) (first : List ℕ) (f : Form) (text more : List ℕ) (pairs : List Pair) (old new : List Logged) → BeginsWith text pairs → ToldAll (growths_of limit f first (keys_and_values pairs)) old new → ToldSome limit f first (text ++ more) old new
+told_given limit first f text more pairs old new begins told =
+    (pairs, begun_more text more pairs begins, record { given = keys_and_values pairs; rest = []; split = sym (append-nil (keys_and_values pairs)); told = told })
+
 -- a piece, and another one behind it
-pub went_on : (limit : ℕ) (told later : Type 0) (f g : Form) (a b c text : List ℕ) (before : List Pair) (piece more : List ℕ) (r s : Reader) → g ≡ f → (told → later)
-    → (w : WentOn limit told f a b text before piece r) → WentOn limit later g b c (text ++ piece) (before ++ w.pairs) more s → WentOn limit told f a c text before (piece ++ more) s
-went_on limit told later f g a b c text before piece more r s same still w v =
+pub went_on : (limit : ℕ) (told later : Type 0) (f g : Form) (a b c text : List ℕ) (before : List Pair) (piece more : List ℕ) (r s : Reader) (old mid new : List Logged) → g ≡ f → (told → later)
+    → (w : WentOn limit told f a b text before piece r old mid) → WentOn limit later g b c (text ++ piece) (before ++ w.pairs) more s mid new → WentOn limit told f a c text before (piece ++ more) s old new
+went_on limit told later f g a b c text before piece more r s old mid new same still w there =
+    let v = subst (λ x. WentOn limit later x b c (text ++ piece) (before ++ w.pairs) more s mid new) same there in
     let joined = append_assoc before w.pairs v.pairs in
     record {
       pairs = w.pairs ++ v.pairs;
       took = subst (λ t. Took t (before ++ (w.pairs ++ v.pairs)) s) (append_assoc text piece more) (subst (λ ps. Took ((text ++ piece) ++ more) ps s) joined v.took);
-      holds = λ t first h.
-          (let there : HoldsPairs limit first g b (keys_and_values (before ++ w.pairs)) = subst (λ x. HoldsPairs limit first x b (keys_and_values (before ++ w.pairs))) (sym same) (w.holds t first h) in
-          let all : HoldsPairs limit first f c (keys_and_values ((before ++ w.pairs) ++ v.pairs)) = subst (λ x. HoldsPairs limit first x c (keys_and_values ((before ++ w.pairs) ++ v.pairs))) same (v.holds (still t) first there) in
-          subst (λ ps. HoldsPairs limit first f c (keys_and_values ps)) joined all);
+      holds = λ t first h. subst (λ ps. HoldsPairs limit first f c (keys_and_values ps)) joined (v.holds (still t) first (w.holds t first h));
+      heard = λ t first h start so_far.
+          subst (λ ps. ToldAll (growths_of limit f first (keys_and_values ps)) start new) joined (v.heard (still t) first (w.holds t first h) start (w.heard t first h start so_far));
     }
 
 -- ---- what is read of a text
@@ -168,44 +183,48 @@ front_of_most so_far more low =
     ap (λ m. take m (so_far ++ more)) n ∙ take-append-add so_far more (LONGEST_TEXT - length so_far)
 
 -- the reader refuses the text, whatever follows
-pub stops_in_piece : (first : List ℕ) (f : Form) (img so_far more : List ℕ) (pairs : List Pair) (limit at : ℕ) → RefusedAt so_far pairs at → length so_far ≤ LONGEST_TEXT → HoldsPairs limit first f img (keys_and_values pairs)
-    → RestoreCause first f img (so_far ++ more) limit (Malformed at)
-stops_in_piece first f img so_far more pairs limit at (place, shows, refused) low holds =
+stop_in_piece : (so_far more : List ℕ) (pairs : List Pair) (at : ℕ) → RefusedAt so_far pairs at → length so_far ≤ LONGEST_TEXT → StopsAt (so_far ++ more) pairs at
+stop_in_piece so_far more pairs at (place, shows, refused) low =
     let rest = take (LONGEST_TEXT - length so_far) more in
     let within : place ≤ length so_far = subst (λ t. place ≤ length t) (append-nil so_far) (bad_within (so_far ++ []) pairs place (refused.bad [])) in
     let is : at ≡ place = shown_place at place shows (omega (arith, within, low)) in
     let bad : BadAt (so_far ++ rest) pairs at = subst (BadAt (so_far ++ rest) pairs) (sym is) (refused.bad rest) in
-    (pairs, record { bad = inl (subst (λ t. BadAt t pairs at) (sym (front_of_most so_far more low)) bad); never = λ others dump short. refused.never more others dump }, holds)
+    record { bad = inl (subst (λ t. BadAt t pairs at) (sym (front_of_most so_far more low)) bad); never = λ others dump short. refused.never more others dump }
 
 -- the reader refuses a piece
-pub text_refused : (first : List ℕ) (f : Form) (img so_far more : List ℕ) (pairs : List Pair) (limit : ℕ) (e : ReadRefusal) → ((at : ℕ) → e ≡ Read.Malformed at → RefusedAt so_far pairs at) → BeginsWith so_far pairs → length so_far ≤ LONGEST_TEXT → HoldsPairs limit first f img (keys_and_values pairs)
-    → RestoreCause first f img (so_far ++ more) limit (of_text e)
-text_refused first f img so_far more pairs limit (Read.Malformed at) malformed begins low holds = stops_in_piece first f img so_far more pairs limit at (malformed at refl) low holds
-text_refused first f img so_far more pairs limit Read.Memory malformed begins low holds = holds_given limit first f img so_far more pairs begins holds
+module _ (so_far more : List ℕ) (pairs : List Pair) (limit : ℕ) (first : List ℕ) (f : Form) (begins : BeginsWith so_far pairs) (low : length so_far ≤ LONGEST_TEXT) where
+  pub text_refused : (e : ReadRefusal) → ((at : ℕ) → e ≡ Read.Malformed at → RefusedAt so_far pairs at) → (img : List ℕ) → HoldsPairs limit first f img (keys_and_values pairs) → RestoreCause first f img (so_far ++ more) limit (of_text e)
+  text_refused (Read.Malformed at) malformed img holds = (pairs, stop_in_piece so_far more pairs at (malformed at refl) low, holds)
+  text_refused Read.Memory malformed img holds = holds_given limit first f img so_far more pairs begins holds
+
+  pub text_heard : (e : ReadRefusal) → ((at : ℕ) → e ≡ Read.Malformed at → RefusedAt so_far pairs at) → (old new : List Logged) → ToldAll (growths_of limit f first (keys_and_values pairs)) old new → TextHeard limit f first (so_far ++ more) old new (of_text e)
+  text_heard (Read.Malformed at) malformed old new told = (pairs, stop_in_piece so_far more pairs at (malformed at refl) low, told)
+  text_heard Read.Memory malformed old new told = told_given limit first f so_far more pairs old new begins told
 
 -- the text ends badly, or where no more of it is read
-pub stops_at_end : (first : List ℕ) (f : Form) (img text whole : List ℕ) (pairs : List Pair) (limit at : ℕ) → text ≡ take LONGEST_TEXT whole → EndsBadlyAt text pairs at → HoldsPairs limit first f img (keys_and_values pairs)
-    → RestoreCause first f img whole limit (Malformed at)
-stops_at_end first f img text whole pairs limit at front (place, shows, ends) holds =
+stop_at_end : (text whole : List ℕ) (pairs : List Pair) (at : ℕ) → text ≡ take LONGEST_TEXT whole → EndsBadlyAt text pairs at → StopsAt whole pairs at
+stop_at_end text whole pairs at front (place, shows, ends) =
     let low : length text ≤ LONGEST_TEXT = omega (arith, ap length front, length-take LONGEST_TEXT whole) in
     let within : place ≤ length text = bad_within text pairs place ends.bad in
     let is : at ≡ place = shown_place at place shows (omega (arith, within, low)) in
-    let bad : BadAt text pairs at = subst (BadAt text pairs) (sym is) ends.bad in (
-      pairs,
-      record {
-        bad = inl (subst (λ t. BadAt t pairs at) front bad);
-        never = λ others dump short. ends.never others (subst (λ t. Dump t others) (sym (front ∙ take_all LONGEST_TEXT whole short)) dump);
-      },
-      holds,
-    )
+    let bad : BadAt text pairs at = subst (BadAt text pairs) (sym is) ends.bad in
+    record {
+      bad = inl (subst (λ t. BadAt t pairs at) front bad);
+      never = λ others dump short. ends.never others (subst (λ t. Dump t others) (sym (front ∙ take_all LONGEST_TEXT whole short)) dump);
+    }
 
 -- the reader refuses the end
-pub end_refused : (first : List ℕ) (f : Form) (img text whole : List ℕ) (pairs : List Pair) (limit : ℕ) (e : ReadRefusal) → text ≡ take LONGEST_TEXT whole → ((at : ℕ) → e ≡ Read.Malformed at → EndsBadlyAt text pairs at) → BeginsWith text pairs → HoldsPairs limit first f img (keys_and_values pairs)
-    → RestoreCause first f img whole limit (of_text e)
-end_refused first f img text whole pairs limit (Read.Malformed at) front malformed begins holds = stops_at_end first f img text whole pairs limit at front (malformed at refl) holds
-end_refused first f img text whole pairs limit Read.Memory front malformed begins holds =
-    let all : text ++ drop LONGEST_TEXT whole ≡ whole = ap (λ t. t ++ drop LONGEST_TEXT whole) front ∙ take-append-drop LONGEST_TEXT whole in
-    subst (HoldsSome limit first f img) all (holds_given limit first f img text (drop LONGEST_TEXT whole) pairs begins holds)
+module _ (text whole : List ℕ) (pairs : List Pair) (limit : ℕ) (first : List ℕ) (f : Form) (front : text ≡ take LONGEST_TEXT whole) (begins : BeginsWith text pairs) where
+  all_of : text ++ drop LONGEST_TEXT whole ≡ whole
+  all_of = ap (λ t. t ++ drop LONGEST_TEXT whole) front ∙ take-append-drop LONGEST_TEXT whole
+
+  pub end_refused : (e : ReadRefusal) → ((at : ℕ) → e ≡ Read.Malformed at → EndsBadlyAt text pairs at) → (img : List ℕ) → HoldsPairs limit first f img (keys_and_values pairs) → RestoreCause first f img whole limit (of_text e)
+  end_refused (Read.Malformed at) malformed img holds = (pairs, stop_at_end text whole pairs at front (malformed at refl), holds)
+  end_refused Read.Memory malformed img holds = subst (HoldsSome limit first f img) all_of (holds_given limit first f img text (drop LONGEST_TEXT whole) pairs begins holds)
+
+  pub end_heard : (e : ReadRefusal) → ((at : ℕ) → e ≡ Read.Malformed at → EndsBadlyAt text pairs at) → (old new : List Logged) → ToldAll (growths_of limit f first (keys_and_values pairs)) old new → TextHeard limit f first whole old new (of_text e)
+  end_heard (Read.Malformed at) malformed old new told = (pairs, stop_at_end text whole pairs at front (malformed at refl), told)
+  end_heard Read.Memory malformed old new told = subst (λ t. ToldSome limit f first t old new) all_of (told_given limit first f text (drop LONGEST_TEXT whole) pairs old new begins told)
 
 -- it is no fault of the outside
 pub text_no_input : (e : ReadRefusal) → of_text e ≡ Input → ⊥
@@ -217,10 +236,9 @@ text_no_io (Read.Malformed at) same = cc
 text_no_io Read.Memory same = cc
 
 -- the text goes on behind the most that is read of it
-pub stops_at_most : (first : List ℕ) (f : Form) (img text whole : List ℕ) (pairs : List Pair) (limit : ℕ) → text ≡ take LONGEST_TEXT whole → LONGEST_TEXT < length whole → Dump text pairs → HoldsPairs limit first f img (keys_and_values pairs)
-    → RestoreCause first f img whole limit (Malformed LONGEST_TEXT)
-stops_at_most first f img text whole pairs limit front longer dump holds =
-    (pairs, record { bad = inr (longer, subst (λ t. Dump t pairs) front dump, refl); never = λ others d short. absurd (omega (arith, longer, short)) }, holds)
+pub stops_at_most : (text whole : List ℕ) (pairs : List Pair) → text ≡ take LONGEST_TEXT whole → LONGEST_TEXT < length whole → Dump text pairs → StopsAt whole pairs LONGEST_TEXT
+stops_at_most text whole pairs front longer dump =
+    record { bad = inr (longer, subst (λ t. Dump t pairs) front dump, refl); never = λ others d short. absurd (omega (arith, longer, short)) }
 
 -- a text that doesn't go on is short enough
 pub short_enough : (whole : List ℕ) (longer : Bool) → longer ≡ false → (LONGEST_TEXT < length whole → IsTrue longer) → length whole ≤ LONGEST_TEXT
@@ -231,6 +249,8 @@ short_enough whole longer ends goes_on =
     ]
 
 -- the text was read to its end
+pub whole_dump : (text whole : List ℕ) (pairs : List Pair) → text ≡ take LONGEST_TEXT whole → length whole ≤ LONGEST_TEXT → Dump text pairs → Dump whole pairs
+whole_dump text whole pairs front short dump = subst (λ t. Dump t pairs) (front ∙ take_all LONGEST_TEXT whole short) dump
+
 pub restored_whole : (limit : ℕ) (first : List ℕ) (f : Form) (img text whole : List ℕ) (pairs : List Pair) → text ≡ take LONGEST_TEXT whole → length whole ≤ LONGEST_TEXT → Dump text pairs → HoldsPairs limit first f img (keys_and_values pairs) → Restored limit first f img whole
-restored_whole limit first f img text whole pairs front short dump holds =
-    record { pairs = pairs; dump = subst (λ t. Dump t pairs) (front ∙ take_all LONGEST_TEXT whole short) dump; short = short; holds = holds }
+restored_whole limit first f img text whole pairs front short dump holds = record { pairs = pairs; dump = whole_dump text whole pairs front short dump; short = short; holds = holds }

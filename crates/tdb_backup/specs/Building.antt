@@ -9,6 +9,10 @@ use Rattle.tdb_space.specs.Accepted.{AcceptWith}
 use Rattle.tdb_backup.specs.Filling.{HasNoRoom, KeepsHeader}
 use Rattle.tdb_backup.specs.Room.{record_lengths, room_behind, room_in}
 use Rattle.tdb_backup.specs.declared.refusal.InsertRefusal as Insert
+use Rattle.tdb_backup.specs.declared.refusal.AddRefusal.{AddRefusal}
+use Rattle.tdb_backup.specs.declared.refusal.AddRefusal.TheVariants as Add
+use Rattle.tdb_backup.specs.declared.refusal.BackupRefusal.{BackupRefusal}
+use Rattle.tdb_backup.specs.declared.refusal.BackupRefusal.TheVariants as Backup
 use Rattle.tdb_backup.specs.declared.refusal.CopyRefusal.{CopyRefusal}
 use Rattle.tdb_backup.specs.declared.refusal.CopyRefusal.TheVariants.{Read, Write, Full, Memory}
 
@@ -53,3 +57,14 @@ abbrev pub of_insert : Insert.InsertRefusal → CopyRefusal
 of_insert (Insert.TheVariants.Full len need) = Full len need
 of_insert Insert.TheVariants.Io = Write
 of_insert Insert.TheVariants.Memory = Memory
+
+-- and as the pair that it is to add and to tell of
+abbrev pub of_added : AddRefusal → BackupRefusal
+of_added (Add.Insert e) = Backup.Copy (of_insert e)
+of_added (Add.Log refusal) = Backup.Log refusal
+
+-- Why not all of these pairs are added where logs are told of each growth: where the last one refused that, the image
+-- holds the pairs up to the one by which it grew.
+abbrev pub BackupRefused : List ℕ → Form → List ℕ → List (List ℕ × List ℕ) → ℕ → BackupRefusal → Type 0
+BackupRefused first f img order limit (Backup.Copy e) = CopyCause first f img order limit e
+BackupRefused first f img order limit (Backup.Log refusal) = HoldsFront limit first f img order

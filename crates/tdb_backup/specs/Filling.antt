@@ -13,7 +13,10 @@ use Rattle.tdb_space.specs.Extents.{HandPair, times, all_extents}
 use Rattle.tdb_space.specs.Accepted.{AcceptWith}
 use Rattle.tdb_free.specs.Growth.{NoRoom}
 use Rattle.tdb_free.specs.declared.refusal.FreeRefusal as Free
+use Rattle.tdb_space.specs.NewRecord.{rec_len_for}
 use Rattle.tdb_backup.specs.Room.{room_in, room_left}
+use Rattle.tdb_backup.specs.declared.refusal.AddRefusal.{AddRefusal}
+use Rattle.tdb_backup.specs.declared.refusal.AddRefusal.TheVariants as Add
 use Rattle.tdb_backup.specs.declared.refusal.InsertRefusal.{InsertRefusal}
 use Rattle.tdb_backup.specs.declared.refusal.InsertRefusal.TheVariants.{Full, Io, Memory}
 
@@ -70,3 +73,14 @@ InsertCause f a b rec_len limit Memory = b ≡ a
 abbrev pub of_free : Free.FreeRefusal → InsertRefusal
 of_free (Free.TheVariants.Full len need) = Full len need
 of_free Free.TheVariants.Io = Io
+
+-- from image a to image b a key and its value were added, within a limit
+pub record Inserted (f : Form) (a b key value : List ℕ) (limit : ℕ) : Type 0 where
+  pub added : Added f a b key value
+  pub filled : Filled f a b (rec_len_for (length key) (length value)) limit
+
+-- Why a key and its value weren't added to image a, or the last log didn't take that the file grew by them. The image
+-- is b then.
+abbrev pub AddCause : Form → List ℕ → List ℕ → List ℕ → List ℕ → ℕ → AddRefusal → Type 0
+AddCause f a b key value limit (Add.Insert e) = InsertCause f a b (rec_len_for (length key) (length value)) limit e
+AddCause f a b key value limit (Add.Log refusal) = Inserted f a b key value limit

@@ -4,4 +4,5 @@ pub mod Dump
 pub mod Room
 pub mod Filling
 pub mod Building
+pub mod Growths
 pub mod Restoring

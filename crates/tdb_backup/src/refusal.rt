@@ -2,18 +2,21 @@
 
 ghost use Rattle.std.specs.Prelude.{◌≡◌};
 ghost use Rattle.tdb_backup.specs.declared.refusal.DumpRefusal.TheVariants.{Failed, Memory};
+ghost use Rattle.tdb_backup.specs.declared.refusal.AddRefusal.TheVariants as AddIs;
+ghost use Rattle.tdb_backup.specs.declared.refusal.BackupRefusal.TheVariants as BackupIs;
 ghost use Rattle.tdb_backup.specs.declared.refusal.InsertRefusal.TheVariants.{Io as InsertIo, Memory as InsertMemory};
 ghost use Rattle.tdb_backup.specs.declared.refusal.RestoreRefusal.TheVariants.{Input, Memory as RestoreMemory};
-ghost use Rattle.tdb_backup.specs.Building.{of_read, of_insert};
+ghost use Rattle.tdb_backup.specs.Building.{of_read, of_insert, of_added};
 ghost use Rattle.tdb_backup.specs.Dump.{of_value};
 ghost use Rattle.tdb_backup.specs.Filling.{of_free};
-ghost use Rattle.tdb_backup.specs.Restoring.{of_text, of_pair};
+ghost use Rattle.tdb_backup.specs.Restoring.{of_text, of_pair, of_added_pair};
 
 use std::alloc::AllocError;
 use tdb_chain::ValueRefusal;
 use tdb_disk::{SinkFault, SourceFault};
 use tdb_dump::ReadRefusal;
 use tdb_free::FreeRefusal;
+use tdb_log::LogRefusal;
 use tdb_space::Io as SpaceIo;
 use thiserror::Error;
 
@@ -109,6 +112,42 @@ impl From<AllocError> for InsertRefusal {
     }
 }
 
+/// Why a pair isn't added to a file where logs are told of each growth, or why that isn't told.
+#[derive(Clone, Copy, Debug, PartialEq, Eq, Error)]
+pub(crate) enum AddRefusal {
+    /// The pair isn't added.
+    #[error("the pair isn't added")]
+    Insert(InsertRefusal),
+
+    /// The pair is added, and the last log didn't take that the file grew.
+    #[error("the growth isn't told")]
+    Log(LogRefusal),
+}
+
+impl From<InsertRefusal> for AddRefusal {
+    ghost from_gives = { λ refusal e. e ≡ AddIs.Insert refusal };
+
+    fn from(refusal: InsertRefusal) -> Self {
+        AddRefusal::Insert(refusal)
+    }
+}
+
+impl From<SpaceIo> for AddRefusal {
+    ghost from_gives = { λ _ e. e ≡ AddIs.Insert InsertIo };
+
+    fn from(_fault: SpaceIo) -> Self {
+        AddRefusal::Insert(InsertRefusal::Io)
+    }
+}
+
+impl From<LogRefusal> for AddRefusal {
+    ghost from_gives = { λ refusal e. e ≡ AddIs.Log refusal };
+
+    fn from(refusal: LogRefusal) -> Self {
+        AddRefusal::Log(refusal)
+    }
+}
+
 /// Why not all pairs of a file are copied to another one.
 #[derive(Clone, Copy, Debug, PartialEq, Eq, Error)]
 pub enum CopyRefusal {
@@ -158,6 +197,37 @@ impl From<InsertRefusal> for CopyRefusal {
     }
 }
 
+/// Why not all pairs of a file are copied to another one where logs are told of each growth, or why that isn't told.
+#[derive(Clone, Copy, Debug, PartialEq, Eq, Error)]
+pub enum BackupRefusal {
+    /// The pairs aren't copied.
+    #[error("the pairs aren't copied")]
+    Copy(CopyRefusal),
+
+    /// The last log didn't take that the file that is written grew.
+    #[error("the growth isn't told")]
+    Log(LogRefusal),
+}
+
+impl From<ValueRefusal> for BackupRefusal {
+    ghost from_gives = { λ refusal e. e ≡ BackupIs.Copy (of_read refusal) };
+
+    fn from(refusal: ValueRefusal) -> Self {
+        BackupRefusal::Copy(CopyRefusal::from(refusal))
+    }
+}
+
+impl From<AddRefusal> for BackupRefusal {
+    ghost from_gives = { λ refusal e. e ≡ of_added refusal };
+
+    fn from(refusal: AddRefusal) -> Self {
+        match refusal {
+            AddRefusal::Insert(refusal) => BackupRefusal::Copy(CopyRefusal::from(refusal)),
+            AddRefusal::Log(refusal) => BackupRefusal::Log(refusal),
+        }
+    }
+}
+
 /// Why not all pairs of a dump text are added to a file.
 #[derive(Clone, Copy, Debug, PartialEq, Eq, Error)]
 pub enum RestoreRefusal {
@@ -189,6 +259,10 @@ pub enum RestoreRefusal {
     /// Memory is wanting.
     #[error("no memory")]
     Memory,
+
+    /// The last log didn't take that the file grew.
+    #[error("the growth isn't told")]
+    Log(LogRefusal),
 }
 
 impl From<SourceFault> for RestoreRefusal {
@@ -218,6 +292,17 @@ impl From<InsertRefusal> for RestoreRefusal {
             InsertRefusal::Full { len, need } => RestoreRefusal::Full { len, need },
             InsertRefusal::Io => RestoreRefusal::Io,
             InsertRefusal::Memory => RestoreRefusal::Memory,
+        }
+    }
+}
+
+impl From<AddRefusal> for RestoreRefusal {
+    ghost from_gives = { λ refusal e. e ≡ of_added_pair refusal };
+
+    fn from(refusal: AddRefusal) -> Self {
+        match refusal {
+            AddRefusal::Insert(refusal) => RestoreRefusal::from(refusal),
+            AddRefusal::Log(refusal) => RestoreRefusal::Log(refusal),
         }
     }
 }

@@ -1,14 +1,14 @@
--- Each pair that the walk gives is added; what is refused leaves those before it.
-use Rattle.std.proofs.Common.{◌+◌, [], refl, rules, length, arith}
+-- Each pair that the walk gives is added and told of; what is refused leaves those before it.
+use Rattle.std.proofs.Common.{◌+◌, [], refl, rules, length, sym, arith}
 use Rattle.std.proofs.lemmas.Result.{err_from_is_err_and}
 use Rattle.tdb_space.specs.NewRecord.{rec_len_for}
 use Rattle.tdb_backup.proofs.Inserting.{stays_within, within_short}
-use Rattle.tdb_backup.proofs.Building.{built_more, built_all, built_refused, built_unread}
+use Rattle.tdb_backup.proofs.Building.{built_more, built_all, told_all, built_refused, heard_refused, built_unread, heard_unread}
 use Rattle.tdb_backup.proofs.copying.copy_pairs.Goals as goal
 
 pub loop-traversal-init : goal.loop-traversal-init
 loop-traversal-init g c = record {
-  built = λ told heard small hands A first holds. ([], c.new-traversal.ensures (g.S.Space.form c.args.from.now) (g.S.Space.image c.args.from.now), holds);
+  built = λ told heard small hands A first holds. record { given = []; gave = c.new-traversal.ensures (g.S.Space.form c.args.from.now) (g.S.Space.image c.args.from.now); holds = holds; told = refl };
   within = omega arith;
   looked = search rules;
   wrote = search rules;
@@ -20,12 +20,16 @@ pub loop-traversal-preserved : goal.loop-traversal-preserved
 loop-traversal-preserved g c = record {
   built = λ told heard small hands A first holds.
       (let looked = c.loop-traversal.invariant.looked in
+      let short = within_short (g.T.Space.size c.args.to.now) (g.T.Space.size c.loop-traversal.to) c.args.limit c.requires.limit c.loop-traversal.invariant.within small in
       built_more c.args.limit first (g.S.Space.form c.args.from.now) (g.S.Space.form c.loop-traversal.from) (g.S.Space.image c.args.from.now) (g.S.Space.image c.loop-traversal.from) hands
-      (g.T.Space.form c.args.to.now) (g.T.Space.form c.loop-traversal.to) (g.T.Space.image c.loop-traversal.to) (g.T.Space.image c.insert_new.new.s) c.loop-traversal.traversal c.advance.new.self c.in_ok-advance.field-0
+      (g.T.Space.form c.args.to.now) (g.T.Space.form c.loop-traversal.to) (g.T.Space.image c.loop-traversal.to) (g.T.Space.image c.insert_and_tell.new.s) c.loop-traversal.traversal c.advance.new.self c.in_ok-advance.field-0
+      (g.L.Logs.logs c.args.logs.now) (g.L.Logs.logs c.loop-traversal.logs)
       looked.form looked.image c.loop-traversal.invariant.wrote.form A (c.loop-traversal.invariant.built told heard small hands A first holds) (c.in_ok-advance.ensures.gave told)
-      c.if-branch.true c.key.result.now c.value.result.now c.key.ensures c.value.ensures (c.in_ok-insert_new.ensures.added heard (within_short (g.T.Space.size c.args.to.now) (g.T.Space.size c.loop-traversal.to) c.args.limit c.requires.limit c.loop-traversal.invariant.within small)) (c.in_ok-insert_new.ensures.filled heard (within_short (g.T.Space.size c.args.to.now) (g.T.Space.size c.loop-traversal.to) c.args.limit c.requires.limit c.loop-traversal.invariant.within small)));
+      c.if-branch.true c.key.result.now c.value.result.now c.key.ensures c.value.ensures (g.L.Logs.logs c.insert_and_tell.new.logs) (g.T.Space.size c.loop-traversal.to) (g.T.Space.size c.insert_and_tell.new.s)
+      (sym (g.met.T.Space.told_size c.loop-traversal.to heard)) (sym (g.met.T.Space.told_size c.insert_and_tell.new.s heard))
+      (c.in_ok-insert_and_tell.ensures.inserted heard short) c.in_ok-insert_and_tell.ensures.heard);
   within =
-      stays_within (g.T.Space.size c.args.to.now) (g.T.Space.size c.loop-traversal.to) (24 + rec_len_for (length c.key.result.now) (length c.value.result.now)) c.args.limit (g.T.Space.size c.insert_new.new.s) c.loop-traversal.invariant.within c.insert_new.ensures.size;
+      stays_within (g.T.Space.size c.args.to.now) (g.T.Space.size c.loop-traversal.to) (24 + rec_len_for (length c.key.result.now) (length c.value.result.now)) c.args.limit (g.T.Space.size c.insert_and_tell.new.s) c.loop-traversal.invariant.within c.insert_and_tell.ensures.size;
   looked = search rules;
   wrote = search rules;
   read_faults = search rules;
@@ -37,26 +41,63 @@ returns-in_err-advance-clause-refused g c =
     let p = err_from_is_err_and c.from_residual.result c.from_residual.ensures.1 in
     rw (p.1, p.2)
     (λ told heard small hands A first holds.
-    built_unread c.args.limit first (g.S.Space.form c.args.from.now) (g.T.Space.form c.args.to.now) (g.S.Space.image c.args.from.now) (g.T.Space.image c.loop-traversal.to) c.loop-traversal.traversal (c.loop-traversal.invariant.built told heard small hands A first holds) c.in_err-advance.field-0.0)
+    built_unread c.args.limit first (g.S.Space.form c.args.from.now) (g.T.Space.form c.args.to.now) (g.S.Space.image c.args.from.now) (g.T.Space.image c.loop-traversal.to) c.loop-traversal.traversal
+    (g.L.Logs.logs c.args.logs.now) (g.L.Logs.logs c.loop-traversal.logs) (c.loop-traversal.invariant.built told heard small hands A first holds) c.in_err-advance.field-0.0)
 
-pub returns-in_err-insert_new-clause-refused : goal.returns-in_err-insert_new-clause-refused
-returns-in_err-insert_new-clause-refused g c =
-    let p = err_from_is_err_and c.from_residual-in_err-insert_new.result c.from_residual-in_err-insert_new.ensures.1 in
+pub returns-in_err-advance-clause-heard : goal.returns-in_err-advance-clause-heard
+returns-in_err-advance-clause-heard g c =
+    let p = err_from_is_err_and c.from_residual.result c.from_residual.ensures.1 in
+    rw (p.1, p.2)
+    (λ told heard small hands A first holds.
+    heard_unread c.args.limit first (g.S.Space.form c.args.from.now) (g.T.Space.form c.args.to.now) (g.S.Space.image c.args.from.now) (g.T.Space.image c.loop-traversal.to) c.loop-traversal.traversal
+    (g.L.Logs.logs c.args.logs.now) (g.L.Logs.logs c.loop-traversal.logs) (c.loop-traversal.invariant.built told heard small hands A first holds) c.in_err-advance.field-0.0)
+
+pub returns-in_err-insert_and_tell-clause-refused : goal.returns-in_err-insert_and_tell-clause-refused
+returns-in_err-insert_and_tell-clause-refused g c =
+    let p = err_from_is_err_and c.from_residual-in_err-insert_and_tell.result c.from_residual-in_err-insert_and_tell.ensures.1 in
     let looked = c.loop-traversal.invariant.looked in
     rw (p.1, p.2)
     (λ told heard small hands A first holds.
+    (let short = within_short (g.T.Space.size c.args.to.now) (g.T.Space.size c.loop-traversal.to) c.args.limit c.requires.limit c.loop-traversal.invariant.within small in
     built_refused c.args.limit first (g.S.Space.form c.args.from.now) (g.S.Space.form c.loop-traversal.from) (g.S.Space.image c.args.from.now) (g.S.Space.image c.loop-traversal.from) hands
-    (g.T.Space.form c.args.to.now) (g.T.Space.form c.loop-traversal.to) (g.T.Space.image c.loop-traversal.to) (g.T.Space.image c.insert_new.new.s) c.loop-traversal.traversal c.advance.new.self c.in_ok-advance.field-0
+    (g.T.Space.form c.args.to.now) (g.T.Space.form c.loop-traversal.to) (g.T.Space.image c.loop-traversal.to) (g.T.Space.image c.insert_and_tell.new.s) c.loop-traversal.traversal c.advance.new.self c.in_ok-advance.field-0
+    (g.L.Logs.logs c.args.logs.now) (g.L.Logs.logs c.loop-traversal.logs)
     looked.form looked.image c.loop-traversal.invariant.wrote.form A (c.loop-traversal.invariant.built told heard small hands A first holds) (c.in_ok-advance.ensures.gave told)
-    c.if-branch.true c.key.result.now c.value.result.now c.key.ensures c.value.ensures c.in_err-insert_new.field-0.0 (c.in_err-insert_new.ensures.refused heard (within_short (g.T.Space.size c.args.to.now) (g.T.Space.size c.loop-traversal.to) c.args.limit c.requires.limit c.loop-traversal.invariant.within small)))
+    c.if-branch.true c.key.result.now c.value.result.now c.key.ensures c.value.ensures (g.L.Logs.logs c.insert_and_tell.new.logs) (g.T.Space.size c.loop-traversal.to) (g.T.Space.size c.insert_and_tell.new.s)
+    (sym (g.met.T.Space.told_size c.loop-traversal.to heard)) (sym (g.met.T.Space.told_size c.insert_and_tell.new.s heard))
+    c.in_err-insert_and_tell.field-0.0 (c.in_err-insert_and_tell.ensures.refused heard short)))
+
+pub returns-in_err-insert_and_tell-clause-heard : goal.returns-in_err-insert_and_tell-clause-heard
+returns-in_err-insert_and_tell-clause-heard g c =
+    let p = err_from_is_err_and c.from_residual-in_err-insert_and_tell.result c.from_residual-in_err-insert_and_tell.ensures.1 in
+    let looked = c.loop-traversal.invariant.looked in
+    rw (p.1, p.2)
+    (λ told heard small hands A first holds.
+    (let short = within_short (g.T.Space.size c.args.to.now) (g.T.Space.size c.loop-traversal.to) c.args.limit c.requires.limit c.loop-traversal.invariant.within small in
+    heard_refused c.args.limit first (g.S.Space.form c.args.from.now) (g.S.Space.form c.loop-traversal.from) (g.S.Space.image c.args.from.now) (g.S.Space.image c.loop-traversal.from) hands
+    (g.T.Space.form c.args.to.now) (g.T.Space.form c.loop-traversal.to) (g.T.Space.image c.loop-traversal.to) (g.T.Space.image c.insert_and_tell.new.s) c.loop-traversal.traversal c.advance.new.self c.in_ok-advance.field-0
+    (g.L.Logs.logs c.args.logs.now) (g.L.Logs.logs c.loop-traversal.logs)
+    looked.form looked.image c.loop-traversal.invariant.wrote.form A (c.loop-traversal.invariant.built told heard small hands A first holds) (c.in_ok-advance.ensures.gave told)
+    c.if-branch.true c.key.result.now c.value.result.now c.key.ensures c.value.ensures (g.L.Logs.logs c.insert_and_tell.new.logs) (g.T.Space.size c.loop-traversal.to) (g.T.Space.size c.insert_and_tell.new.s)
+    (sym (g.met.T.Space.told_size c.loop-traversal.to heard)) (sym (g.met.T.Space.told_size c.insert_and_tell.new.s heard))
+    c.in_err-insert_and_tell.field-0.0 (c.in_err-insert_and_tell.ensures.refused heard short) c.in_err-insert_and_tell.ensures.heard))
 
 pub returns-clause-copied : goal.returns-clause-copied
 returns-clause-copied g c told heard small hands A first holds =
     let looked = c.loop-traversal.invariant.looked in
     built_all c.args.limit first (g.S.Space.form c.args.from.now) (g.S.Space.form c.loop-traversal.from) (g.S.Space.image c.args.from.now) (g.S.Space.image c.loop-traversal.from) hands
     (g.T.Space.form c.args.to.now) (g.T.Space.form c.loop-traversal.to) (g.T.Space.image c.loop-traversal.to) (g.T.Space.image c.loop-traversal.to) c.loop-traversal.traversal c.advance.new.self c.in_ok-advance.field-0
+    (g.L.Logs.logs c.args.logs.now) (g.L.Logs.logs c.loop-traversal.logs)
     looked.form looked.image c.loop-traversal.invariant.wrote.form A (c.loop-traversal.invariant.built told heard small hands A first holds) (c.in_ok-advance.ensures.gave told) c.if-branch.false
 
-pub returns-in_err-insert_new-clause-within : goal.returns-in_err-insert_new-clause-within
-returns-in_err-insert_new-clause-within g c =
-    stays_within (g.T.Space.size c.args.to.now) (g.T.Space.size c.loop-traversal.to) (24 + rec_len_for (length c.key.result.now) (length c.value.result.now)) c.args.limit (g.T.Space.size c.insert_new.new.s) c.loop-traversal.invariant.within c.insert_new.ensures.size
+pub returns-clause-told : goal.returns-clause-told
+returns-clause-told g c told heard small hands A first holds =
+    let looked = c.loop-traversal.invariant.looked in
+    told_all c.args.limit first (g.S.Space.form c.args.from.now) (g.S.Space.form c.loop-traversal.from) (g.S.Space.image c.args.from.now) (g.S.Space.image c.loop-traversal.from) hands
+    (g.T.Space.form c.args.to.now) (g.T.Space.form c.loop-traversal.to) (g.T.Space.image c.loop-traversal.to) (g.T.Space.image c.loop-traversal.to) c.loop-traversal.traversal c.advance.new.self c.in_ok-advance.field-0
+    (g.L.Logs.logs c.args.logs.now) (g.L.Logs.logs c.loop-traversal.logs)
+    looked.form looked.image c.loop-traversal.invariant.wrote.form A (c.loop-traversal.invariant.built told heard small hands A first holds) (c.in_ok-advance.ensures.gave told) c.if-branch.false
+
+pub returns-in_err-insert_and_tell-clause-within : goal.returns-in_err-insert_and_tell-clause-within
+returns-in_err-insert_and_tell-clause-within g c =
+    stays_within (g.T.Space.size c.args.to.now) (g.T.Space.size c.loop-traversal.to) (24 + rec_len_for (length c.key.result.now) (length c.value.result.now)) c.args.limit (g.T.Space.size c.insert_and_tell.new.s) c.loop-traversal.invariant.within c.insert_and_tell.ensures.size

@@ -1,4 +1,5 @@
--- The text so far was taken, and the new file holds the pairs that ended in it.
+-- The text so far was taken, the new file holds the pairs that ended in it, and logs heard of
+-- each growth.
 use Rattle.std.proofs.Common.{◌≡◌, ◌+◌, ◌<◌, ◌++◌, [], ℕ, List, IsTrue, length}
 use Rattle.std.specs.Prelude.{◌^◌, ◌≤◌, max}
 use Rattle.tdb_space.specs.Frame.{Wrote}
@@ -8,7 +9,7 @@ use Rattle.tdb_backup.proofs.restoring.add_text.Given as goal
 
 abbrev pub invariant-loop-left : goal.invariant-loop-left
 invariant-loop-left g l = record {
-  taken : (text : List ℕ) × WentOn l.limit (IsTrue g.T.Space.tells × (g.T.Space.size l.fn.to < 2 ^ 32)) (g.T.Space.form l.fn.to) (g.T.Space.image l.fn.to) (g.T.Space.image l.to) [] [] text l.reader
+  taken : (text : List ℕ) × WentOn l.limit (IsTrue g.T.Space.tells × (g.T.Space.size l.fn.to < 2 ^ 32)) (g.T.Space.form l.fn.to) (g.T.Space.image l.fn.to) (g.T.Space.image l.to) [] [] text l.reader (g.L.Logs.logs l.fn.logs) (g.L.Logs.logs l.logs)
       × (length text + l.left ≡ LONGEST_TEXT) × (IsTrue g.S.Source.tells → g.S.Source.left l.fn.input ≡ text ++ g.S.Source.left l.input);
   room : 0 < length l.piece;
   within : g.T.Space.size l.to ≤ max (g.T.Space.size l.fn.to) l.limit;
