@@ -1,17 +1,18 @@
 -- Calls on files one after the other, each of which is touched once.
-use Rattle.std.proofs.Common.{◌≡◌, ◌≢◌, ℕ, zero, suc, ◌+◌, ◌<◌, ◌≤◌, Bool, true, false, IsTrue, List, [], ◌∷◌, ◌++◌, get_or, length, set, take, Some, Result, Ok, Err, refl, sym, ◌∙◌, ap, subst, inl, inr, ◌⊎◌, add-one, append-nil, append_assoc, arith}
+use Rattle.std.proofs.Common.{◌≡◌, ◌≢◌, ℕ, zero, suc, ◌+◌, ◌<◌, ◌≤◌, Bool, true, false, IsTrue, List, [], ◌∷◌, ◌++◌, get_or, length, set, take, drop, Some, Result, Ok, Err, refl, sym, ◌∙◌, ap, subst, inl, inr, ◌⊎◌, add-one, append-nil, append_assoc, arith}
 use Rattle.std.specs.Prelude.{IfErr, MatchResult, slice_get}
 use Rattle.std.proofs.lemmas.Bool.{cases_eq}
 use Rattle.std.proofs.lemmas.List.{length-set, take_all}
 use Rattle.std.proofs.lemmas.Option.{slice_get_read, slice_get_within}
-use Rattle.tdb_log.specs.Logs.{Logged, ToldAll}
-use Rattle.tdb_log.specs.declared.notice.Notice.{Notice}
+use Rattle.tdb_log.specs.Logs.{Logged, ToldAll, ToldUpTo, growth}
+use Rattle.tdb_log.specs.declared.log.LogRefusal.TheVariants as Unheard
+use Rattle.tdb_log.proofs.Telling.{refused_before, told_joined, told_then_refused}
 use Rattle.tdb_disk.specs.Count.{Rose}
 use Rattle.tdb_law.specs.Openers.{Map}
 use Rattle.tdb_world.specs.OverFile.{KeepsForm, OverFile}
 use Rattle.tdb_group.specs.Each.{AllWell, CancelledEach, HeardEach, PreparationLeft, PreparedEach, RoseAt, StayEach, UnlessFailed, WellIfDone, WentOn, cancel_answer, growths, with_file}
 use Rattle.tdb_group.specs.Faults.{at_file, stop_at}
-use Rattle.tdb_group.specs.Files.{Cancelled, HeardGrowth, IsAt, PrepareLeft, Prepared, StaysAt, growth}
+use Rattle.tdb_group.specs.Files.{Cancelled, HeardGrowth, IsAt, PrepareLeft, Prepared, StaysAt}
 use Rattle.tdb_group.specs.Group.{EachFile, EachPair, Standing}
 use Rattle.tdb_group.specs.Members.{IsSettled, IsUnderway, Maps}
 use Rattle.tdb_group.specs.Turns.{Ran}
@@ -114,11 +115,6 @@ all_pairs at Became olds news U stay n old now was is = elim (below_or_not n at)
 pub every_pair : (at : ℕ) (Became : ℕ → OverFile → OverFile → Type 0) (olds news : List OverFile) → UpTo at Became olds news → at ≡ length olds → EachPair olds news Became
 every_pair at Became olds news U all n old now was is = (let low = slice_get_within olds n old was in U.done n old now (omega (arith, low, all)) was is)
 
--- The last log was told notices, and then others.
-pub told_then : (one two : List Notice) (a b c : List Logged) → ToldAll one a b → ToldAll two b c → ToldAll (one ++ two) a c
-told_then [] two a b c first second = subst (λ z. ToldAll two z c) first second
-told_then (notice ∷ one) two a b c (mid, took, rest) second = (mid, took, told_then one two mid b c rest second)
-
 -- the growths of the first so many files, and of one more
 growths_none : (olds news : List OverFile) → growths (take 0 olds) (take 0 news) ≡ []
 growths_none olds news = refl
@@ -130,6 +126,18 @@ growths_more n (x ∷ olds) [] old mid now was is = absurd (cc is)
 growths_more zero (x ∷ olds) (y ∷ news) old mid now was is = (let same = some_same x old was in ap (λ (z : OverFile). growth z.size now.size ++ []) same ∙ append-nil (growth old.size now.size))
 growths_more (suc n) (x ∷ olds) (y ∷ news) old mid now was is =
     ap (λ g. growth x.size y.size ++ g) (growths_more n olds news old mid now was is) ∙ sym (append_assoc (growth x.size y.size) (growths (take n olds) (take n news)) (growth old.size now.size))
+
+-- those of the first so many files, and of the rest
+growths_nil : (olds : List OverFile) → growths olds [] ≡ []
+growths_nil [] = refl
+growths_nil (x ∷ olds) = refl
+
+growths_split : (n : ℕ) (olds news : List OverFile) → growths olds news ≡ growths (take n olds) (take n news) ++ growths (drop n olds) (drop n news)
+growths_split zero olds news = refl
+growths_split (suc n) [] news = refl
+growths_split (suc n) (x ∷ olds) [] = sym (growths_nil (drop n olds))
+growths_split (suc n) (x ∷ olds) (y ∷ news) =
+    ap (λ g. growth x.size y.size ++ g) (growths_split n olds news) ∙ sym (append_assoc (growth x.size y.size) (growths (take n olds) (take n news)) (growths (drop n olds) (drop n news)))
 
 -- A file was prepared.
 pub record PreparedOne (tells : Bool) (n : ℕ) (old now : OverFile) : Type 0 where
@@ -156,7 +164,7 @@ module _ (tells : Bool) (at : ℕ) (olds mids : List OverFile) (before between a
   pub prepared_more : Ran {V = Unit {0}} old now (Ok tt) → Prepared tells old now (Ok tt) → HeardGrowth old.size now.size between after (Ok tt) → PreparedUpTo tells (at + 1) olds (set mids at now) before after
   prepared_more R P heard = record {
     files = one_more at (PreparedOne tells) olds mids old now S.files here (record { ran = R; prepared = P });
-    heard = rw (add-one, growths_more at olds mids old old now was here) (told_then (growths (take at olds) (take at mids)) (growth old.size now.size) before between after S.heard heard);
+    heard = rw (add-one, growths_more at olds mids old old now was here) (told_joined (growths (take at olds) (take at mids)) (growth old.size now.size) before between after S.heard heard);
   }
 
   -- it breaks off
@@ -218,7 +226,11 @@ module _ (tells : Bool) (at : ℕ) (olds mids : List OverFile) (before between a
     left_of told ps standing s left = tt
 
     heard_of : (s : FileStop) → HeardGrowth old.size now.size between after (Err s) → HeardEach olds (set mids at now) before after (Err (at_file s at))
-    heard_of LogFailed heard = (growths (take at olds) (take at mids), between, S.heard, heard)
+    heard_of LogFailed heard =
+        let front = told_then_refused Unheard.Failed (growths (take at olds) (take at mids)) (growth old.size now.size) before between after S.heard heard in
+        let some = subst (λ l. ToldUpTo Unheard.Failed l before after) (sym (growths_more at olds mids old old now was here)) front in
+        subst (λ l. ToldUpTo Unheard.Failed l before after) (sym (growths_split (suc at) olds (set mids at now)))
+        (refused_before Unheard.Failed (growths (take (suc at) olds) (take (suc at) (set mids at now))) (growths (drop (suc at) olds) (drop (suc at) (set mids at now))) before after some)
     heard_of s heard = tt
 
     pub prepared_broken : PreparedEach tells olds (set mids at now) before after (Err (at_file stop at))

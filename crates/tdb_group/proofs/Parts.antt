@@ -17,7 +17,7 @@ use Rattle.tdb_commands.specs.declared.command.Command.TheVariants as Given
 use Rattle.tdb_steps.specs.declared.flag.Flag.{Flag}
 use Rattle.tdb_locks.specs.declared.turn.Reply.{Reply}
 use Rattle.tdb_locks.specs.declared.turn.Reply.TheVariants as Replied
-use Rattle.tdb_log.specs.Logs.{Logged, LastRefused, ToldAll}
+use Rattle.tdb_log.specs.Logs.{Logged, ToldAll, ToldUpTo, growth}
 use Rattle.tdb_log.specs.declared.log.LogRefusal.{LogRefusal}
 use Rattle.tdb_log.specs.declared.log.LogRefusal.TheVariants as Unheard
 use Rattle.tdb_world.specs.Calm.{OpensToEither, OpensToMap}
@@ -28,7 +28,7 @@ use Rattle.tdb_world.specs.Stops.{IsSafe}
 use Rattle.tdb_group.specs.Commands.{IsOnKey}
 use Rattle.tdb_group.specs.Commands.Replies.{replies_memory}
 use Rattle.tdb_group.specs.Faults.{log_answer, prepare_answer, was_done}
-use Rattle.tdb_group.specs.Files.{Applied, Cancelled, Finished, HasNoTxn, HeardGrowth, IsAt, PrepareLeft, Prepared, StaysAt, Started, growth, maps}
+use Rattle.tdb_group.specs.Files.{Applied, Cancelled, Finished, HasNoTxn, HeardGrowth, IsAt, PrepareLeft, Prepared, StaysAt, Started, maps}
 use Rattle.tdb_group.specs.Members.{IsMember, IsSettled, IsUnderway, Maps, form_of_file, options_of_file, with_txn}
 use Rattle.tdb_group.specs.Turns.{CommandLeft, Did, IsPlain, Ran, map_to}
 use Rattle.tdb_group.specs.declared.stop.FileStop.{FileStop}
@@ -206,13 +206,13 @@ prepared_not tells a z history rose = record {
 
 -- what the last log was told
 log_heard : (from to : ℕ) (before after : List Logged) (heard : Result (Unit {0}) LogRefusal) (rest : Result (Unit {0}) FileStop)
-    → HeardGrowth from to before after rest → IfErr heard (λ refusal. LastRefused refusal before after) → HeardGrowth from to before after (log_answer heard rest)
+    → HeardGrowth from to before after rest → IfErr heard (λ refusal. ToldUpTo refusal (growth from to) before after) → HeardGrowth from to before after (log_answer heard rest)
 log_heard from to before after (Ok v) rest heard refused = heard
 log_heard from to before after (Err Unheard.Failed) rest heard refused = refused
 log_heard from to before after (Err Unheard.Memory) rest heard refused = tt
 
 pub heard_so : (from to : ℕ) (before after : List Logged) (reply : Option Reply) (heard : Result (Unit {0}) LogRefusal) → OnOk heard (ToldAll (growth from to) before after)
-    → IfErr heard (λ refusal. LastRefused refusal before after) → HeardGrowth from to before after (prepare_answer reply heard)
+    → IfErr heard (λ refusal. ToldUpTo refusal (growth from to) before after) → HeardGrowth from to before after (prepare_answer reply heard)
 heard_so from to before after (Some (Replied.Full len need)) heard told refused = tt
 heard_so from to before after (Some Replied.Ok) (Ok v) told refused = told
 heard_so from to before after (Some Replied.Ok) (Err Unheard.Failed) told refused = refused

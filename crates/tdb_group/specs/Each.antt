@@ -1,12 +1,12 @@
 -- What becomes of files that are prepared, or cancelled, one after the other.
 use Rattle.std.specs.Prelude.{ℕ, ◌≡◌, ◌⊎◌, ◌<◌, ◌≤◌, List, [], ◌∷◌, ◌++◌, Bool, IsTrue, false, true, Some, Result, Ok, Err, IfErr, MatchResult, length, slice_get}
 use Rattle.tdb_disk.specs.Count.{Rose}
-use Rattle.tdb_log.specs.Logs.{Logged, LastRefused, ToldAll}
+use Rattle.tdb_log.specs.Logs.{Logged, ToldAll, ToldUpTo, growth}
 use Rattle.tdb_log.specs.declared.log.LogRefusal.TheVariants as Unheard
 use Rattle.tdb_log.specs.declared.notice.Notice.{Notice}
 use Rattle.tdb_world.specs.OverFile.{KeepsForm, OverFile}
 use Rattle.tdb_group.specs.Faults.{stop_at}
-use Rattle.tdb_group.specs.Files.{IsAt, IsFull, StaysAt, growth}
+use Rattle.tdb_group.specs.Files.{IsAt, IsFull, StaysAt}
 use Rattle.tdb_group.specs.Group.{EachFile, EachPair, Standing}
 use Rattle.tdb_group.specs.Members.{IsSettled, Maps}
 use Rattle.tdb_group.specs.Turns.{Ran}
@@ -69,10 +69,10 @@ PreparationLeft Full ps olds news (Err (Refused at reply)) = IsFull reply × Ful
 PreparationLeft Full ps olds news (Err (Io at)) = RoseAt olds news at
 PreparationLeft Full ps olds news (Err stop) = Unit {0}
 
--- What the last log heard of it: how each file grew; or it took some notices, and failed at the next.
+-- What the last log heard of it: how each file grew; or it took some of these notices, and failed at the next.
 abbrev pub HeardEach : List OverFile → List OverFile → List Logged → List Logged → Result (Unit {0}) GroupStop → Type 0
 HeardEach olds news before after (Ok v) = ToldAll (growths olds news) before after
-HeardEach olds news before after (Err (LogFailed at)) = (notices : List Notice) × (mid : List Logged) × ToldAll notices before mid × LastRefused Unheard.Failed mid after
+HeardEach olds news before after (Err (LogFailed at)) = ToldUpTo Unheard.Failed (growths olds news) before after
 HeardEach olds news before after (Err stop) = Unit {0}
 
 -- Files were prepared in their order, all or those in front of one that can't be.

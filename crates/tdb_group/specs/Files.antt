@@ -1,5 +1,5 @@
 -- What the calls of a group come to at one file.
-use Rattle.std.specs.Prelude.{ℕ, ◌≡◌, ◌⊎◌, List, [], ◌∷◌, Bool, IsTrue, true, false, None, Result, Ok, Err, MatchResult, if◌then◌else◌, nat_lt}
+use Rattle.std.specs.Prelude.{ℕ, ◌≡◌, ◌⊎◌, List, [], ◌∷◌, Bool, IsTrue, true, false, None, Result, Ok, Err, MatchResult}
 use Rattle.tdb_disk.specs.Count.{Rose}
 use Rattle.tdb_disk.specs.Stop.{LeavesOnly}
 use Rattle.tdb_law.specs.Commands.{Command as LawCommand}
@@ -8,10 +8,8 @@ use Rattle.tdb_law.specs.World.{State}
 use Rattle.tdb_commands.specs.InLaw.{law_reply}
 use Rattle.tdb_locks.specs.declared.turn.Reply.{Reply}
 use Rattle.tdb_locks.specs.declared.turn.Reply.TheVariants.{Full}
-use Rattle.tdb_log.specs.Logs.{Logged, LastRefused, ToldAll}
+use Rattle.tdb_log.specs.Logs.{Logged, ToldAll, ToldUpTo, growth}
 use Rattle.tdb_log.specs.declared.log.LogRefusal.TheVariants as Unheard
-use Rattle.tdb_log.specs.declared.notice.Notice.{Notice}
-use Rattle.tdb_log.specs.declared.notice.Notice.TheVariants.{Grew}
 use Rattle.tdb_world.specs.Calm.{OpensToEither, OpensToMap}
 use Rattle.tdb_world.specs.Loaded.{IsJustLoaded}
 use Rattle.tdb_world.specs.OverFile.{OverFile, HasState}
@@ -68,14 +66,10 @@ pub record Prepared (tells : Bool) (old new : OverFile) (answer : Result (Unit {
   pub left : IsTrue tells → (p : Maps) → IsUnderway false p old → PrepareLeft p old new answer
   pub stops : IsTrue tells → (p : Maps) → IsUnderway false p old → StaysAt p.before old new
 
--- the notice that a file grew from one length to another, where it did
-abbrev pub growth : ℕ → ℕ → List Notice
-growth from to = if nat_lt from to then Grew from to ∷ [] else []
-
--- what the last log was told of a file that was prepared; or that it failed
+-- what the last log was told of a file that was prepared: how it grew; or that it failed at that
 abbrev pub HeardGrowth : ℕ → ℕ → List Logged → List Logged → Result (Unit {0}) FileStop → Type 0
 HeardGrowth from to before after (Ok v) = ToldAll (growth from to) before after
-HeardGrowth from to before after (Err LogFailed) = LastRefused Unheard.Failed before after
+HeardGrowth from to before after (Err LogFailed) = ToldUpTo Unheard.Failed (growth from to) before after
 HeardGrowth from to before after (Err stop) = Unit {0}
 
 -- The prepared transaction was committed. It fails only where the disk does, and each stop leaves the one map or the

@@ -1,12 +1,11 @@
 // One file of a group: a world in whose transaction commands are done.
 
-ghost use Rattle.std.specs.Prelude.{◌≡◌, ◌⊎◌, IfErr, OnOk, false, true};
+ghost use Rattle.std.specs.Prelude.{◌≡◌, ◌⊎◌, IfErr, false, true};
 ghost use Rattle.tdb_commands.specs.InLaw.{law_command};
 ghost use Rattle.tdb_commands.specs.Short.{IsShortCommand};
-ghost use Rattle.tdb_log.specs.Logs.{LastRefused, ToldAll};
 ghost use Rattle.tdb_group.specs.Commands.{IsOnKey};
 ghost use Rattle.tdb_group.specs.Faults.{prepare_answer, was_done};
-ghost use Rattle.tdb_group.specs.Files.{Applied, Cancelled, Finished, HeardGrowth, Prepared, Started, growth};
+ghost use Rattle.tdb_group.specs.Files.{Applied, Cancelled, Finished, HeardGrowth, Prepared, Started};
 ghost use Rattle.tdb_group.specs.Turns.{Ran};
 ghost use Rattle.tdb_group.specs.declared.stop.FileStop.TheVariants as StopIs;
 
@@ -16,7 +15,7 @@ use std::alloc::Global;
 use tdb_commands::Command;
 use tdb_disk::Disk;
 use tdb_locks::Reply;
-use tdb_log::{LogRefusal, Logs, Notice};
+use tdb_log::{LogRefusal, Logs, tell_growth};
 use tdb_world::World;
 
 /// Whether a command was done.
@@ -82,17 +81,6 @@ pub(crate) fn apply<D: Disk>(
     let answer = do_on_key(alloc, world, command);
     world.shrink_to_fit();
     answer
-}
-
-/// Tells the last log that the file grew, where it did.
-fn tell_growth<L: Logs>(from: u64, to: u64, logs: &mut L) -> Result<(), LogRefusal>
-    ensures told { OnOk result (ToldAll (growth from to) (L.logs logs.old) (L.logs logs.new)) }
-    ensures refused { IfErr result (λ refusal. LastRefused refusal (L.logs logs.old) (L.logs logs.new)) }
-{
-    if from < to {
-        return logs.note(&Notice::Grew { from, to });
-    }
-    Ok(())
 }
 
 /// What a Prepare comes to, by its reply and by what the last log answered. Only where there is no room does the
