@@ -2,8 +2,8 @@
 
 use crate::tables::first_failure;
 use crate::{
-    backup, changes, create, generate, inserts, limits, lines, logs, long, mends, merges, moves,
-    options, printing, rescues, rewrites, sessions, summaries, turns, undo, verify,
+    backup, changes, create, generate, growths, inserts, limits, lines, logs, long, mends, merges,
+    moves, options, printing, rescues, rewrites, sessions, summaries, turns, undo, verify,
 };
 
 // In parts: a list of all tables is more than the prover computes in one step.
@@ -59,6 +59,7 @@ fn runs_beside_the_tables(rt: HostRuntime) {
         ("loads", generate::failing_load(alloc)),
         ("checks", lines::failing_check(alloc)),
         ("logs", logs::failing_row(alloc, &logs::LOGGED)),
+        ("growths", logs::failing_row(alloc, &growths::LOGGED)),
         (
             "loads with logs",
             logs::failing_row(alloc, &generate::LOGGED),

@@ -12,6 +12,8 @@ mod create;
 #[cfg(test)]
 mod generate;
 #[cfg(test)]
+mod growths;
+#[cfg(test)]
 mod images;
 #[cfg(test)]
 mod inserts;

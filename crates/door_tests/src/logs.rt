@@ -21,22 +21,22 @@ pub(crate) struct Logged {
     pub(crate) told: &'static [Notice],
 }
 
-const NOTHING_YET: Notice = Notice::Checked {
+pub(crate) const NOTHING_YET: Notice = Notice::Checked {
     live: 0,
     dead_bytes: 0,
 };
 
-const ONE_KEY: Notice = Notice::Checked {
+pub(crate) const ONE_KEY: Notice = Notice::Checked {
     live: 1,
     dead_bytes: 0,
 };
 
-const LOST_KEY: Notice = Notice::Refused {
+pub(crate) const LOST_KEY: Notice = Notice::Refused {
     what: What::Stray,
     at: 4068,
 };
 
-const FIRST_GROWTH: Notice = Notice::Grew {
+pub(crate) const FIRST_GROWTH: Notice = Notice::Grew {
     from: 696,
     to: 4096,
 };
@@ -152,7 +152,7 @@ pub(crate) static LOGGED: [(&'static str, Logged); 18] = [
             logs: 1,
             failing: None,
             left: 1,
-            told: &[ONE_KEY],
+            told: &[ONE_KEY, FIRST_GROWTH],
         },
     ),
     (

@@ -1,5 +1,5 @@
 -- What the copying of a file gives, from what its parts gave.
-use Rattle.std.proofs.Common.{◌≡◌, ◌⊎◌, ◌^◌, ◌<◌, ◌≤◌, ℕ, List, [], ◌∷◌, Option, None, Some, length, refl, sym, ◌∙◌, ap, subst, inl, inr, arith}
+use Rattle.std.proofs.Common.{◌≡◌, ◌⊎◌, ◌^◌, ◌<◌, ◌≤◌, ℕ, List, [], ◌∷◌, Option, None, Some, length, append-nil, refl, sym, ◌∙◌, ap, subst, inl, inr, arith}
 use Rattle.std.specs.Prelude.{IsTrue, Bool, slice_index}
 use Rattle.std.specs.Map.{lookup}
 use Rattle.tdb_words.specs.declared.header.Header.{Header}
@@ -12,10 +12,14 @@ use Rattle.tdb_space.specs.Pairs.{order_of, same_key}
 use Rattle.tdb_space.specs.Accepted.{AcceptWith}
 use Rattle.tdb_space.proofs.Opening.Undone.{read_as_it_is, old_length}
 use Rattle.tdb_space.proofs.RecoverySteps.Steps.{restored_length}
-use Rattle.tdb_backup.specs.Building.{HoldsPairs, CopyCause}
+use Rattle.tdb_backup.specs.Building.{HoldsPairs, BackupRefused}
+use Rattle.tdb_backup.specs.Growths.{CopyHeard, growths_of}
+use Rattle.tdb_log.specs.Logs.{Logged, ToldAll}
+use Rattle.tdb_log.specs.declared.log.LogRefusal.TheVariants as L
 use Rattle.tdb_answer.specs.Commands.Create.{new_file_of}
 use Rattle.tdb_backup.specs.Room.{room_in}
-use Rattle.tdb_backup.specs.declared.refusal.CopyRefusal.{CopyRefusal}
+use Rattle.tdb_backup.specs.declared.refusal.BackupRefusal.{BackupRefusal}
+use Rattle.tdb_backup.specs.declared.refusal.BackupRefusal.TheVariants as B
 use Rattle.tdb_backup.specs.declared.refusal.CopyRefusal.TheVariants as C
 use Rattle.tdb_disk.specs.declared.files.TakeRefusal.{TakeRefusal}
 use Rattle.tdb_disk.specs.declared.files.TakeRefusal.TheVariants as Take
@@ -26,7 +30,7 @@ use Rattle.tdb_answer.specs.declared.ending.Ending.TheVariants.{Replied, Refused
 use Rattle.tdb_answer.specs.declared.ending.Reply.TheVariants as Reply
 use Rattle.tdb_open.specs.declared.halt.Halt.{Halt}
 use Rattle.tdb_open.specs.declared.halt.Halt.TheVariants as H
-use Rattle.tdb_answer.specs.Commands.Backup.{IsCopyOf, IsNotCopied, of_copy, IsLeftOf, Stopped, EndsAt, BackupEnds, BackupCause, IsUntakenNew, CopyMade, copy_made, copy_full, copy_failed, copy_wanting, DiskCopied, disk_copied, disk_refused, disk_full, disk_failed, disk_wanting, disk_unlogged, IsUntaken, FileCopied, file_untaken, file_taken, BackedUpOne, EndsBackup, CountedBoth}
+use Rattle.tdb_answer.specs.Commands.Backup.{IsCopyOf, IsNotBackedUp, CopyingHeard, RefusalHeard, copy_growths, of_backup, IsLeftOf, Stopped, EndsAt, BackupEnds, BackupCause, IsUntakenNew, CopyMade, copy_made, copy_full, copy_failed, copy_wanting, copy_untold, DiskCopied, disk_copied, disk_refused, disk_full, disk_failed, disk_wanting, disk_unlogged, IsUntaken, FileCopied, file_untaken, file_taken, BackedUpOne, EndsBackup, CountedBoth}
 use Rattle.tdb_open.specs.Creating.{IsNewFile, new_image}
 use Rattle.tdb_answer.specs.Ending.{CountedBy, Untaken, of_halt}
 use Rattle.tdb_open.specs.Opening.{opened_bytes, CanOpen, IsCheckedOn, UndoneIfOpen, LookBroken, HeldOrUndone, HeldBroken, HaltsRightly, HaltLeaves}
@@ -70,8 +74,15 @@ module _ (img fresh : List ℕ) (o : Opened) (of_source of_copy : Header) (as_so
   pub as_copied : (now : List ℕ) → HoldsPairs LONGEST_FILE (new_file_of (form_of img)) (form_in of_copy) now (order_of (form_in of_source) img) → HoldsPairs LONGEST_FILE (new_file_of (form_of img)) (form_of img) now (order_of (form_of img) img)
   as_copied now holds = subst (λ (q : Form × Form). HoldsPairs LONGEST_FILE (new_file_of (form_of img)) q.0 now (order_of q.1 img)) (λ j. (copy_form j, source_form j)) holds
 
-  pub as_refused : (now : List ℕ) (e : CopyRefusal) → CopyCause (new_file_of (form_of img)) (form_in of_copy) now (order_of (form_in of_source) img) LONGEST_FILE e → IsNotCopied img e
-  as_refused now e cause = (now, subst (λ (q : Form × Form). CopyCause (new_file_of (form_of img)) q.0 now (order_of q.1 img) LONGEST_FILE e) (λ j. (copy_form j, source_form j)) cause)
+  pub as_refused : (now : List ℕ) (e : BackupRefusal) → BackupRefused (new_file_of (form_of img)) (form_in of_copy) now (order_of (form_in of_source) img) LONGEST_FILE e → IsNotBackedUp img e
+  as_refused now e cause = (now, subst (λ (q : Form × Form). BackupRefused (new_file_of (form_of img)) q.0 now (order_of q.1 img) LONGEST_FILE e) (λ j. (copy_form j, source_form j)) cause)
+
+  -- and what logs heard of it
+  pub as_told : (old new : List Logged) → ToldAll (growths_of LONGEST_FILE (form_in of_copy) (new_file_of (form_of img)) (order_of (form_in of_source) img)) old new → ToldAll (copy_growths img) old new
+  as_told old new told = subst (λ (q : Form × Form). ToldAll (growths_of LONGEST_FILE q.0 (new_file_of (form_of img)) (order_of q.1 img)) old new) (λ j. (copy_form j, source_form j)) told
+
+  pub as_heard : (old new : List Logged) (e : BackupRefusal) → CopyHeard LONGEST_FILE (form_in of_copy) (new_file_of (form_of img)) (order_of (form_in of_source) img) old new e → RefusalHeard img old new e
+  as_heard old new e heard = subst (λ (q : Form × Form). CopyHeard LONGEST_FILE q.0 (new_file_of (form_of img)) (order_of q.1 img) old new e) (λ j. (copy_form j, source_form j)) heard
 
 -- a sync puts the copy on the medium
 pub copied_synced : (img : List ℕ) (old now : History) → HoldsPairs LONGEST_FILE (new_file_of (form_of img)) (form_of img) (seen old) (order_of (form_of img) img) → now ≡ called old synced → IsCopyOf img now
@@ -142,22 +153,26 @@ files_alone disk disk_after before after e same counted = record {
 
 -- a copy that was refused: its ending, what stands at its name where it was removed, and how often calls had failed
 module _ (img : List ℕ) (old now : Option History) (gone : now ≡ None) where
-  copy_removed : (r : CopyRefusal) → IsNotCopied img r → CopyMade img old now (of_copy r)
-  copy_removed C.Read refused = copy_failed
-  copy_removed C.Write refused = copy_failed
-  copy_removed (C.Full len need) refused = copy_full len need refused gone
-  copy_removed C.Memory refused = copy_wanting (inr gone)
+  copy_removed : (r : BackupRefusal) → IsNotBackedUp img r → CopyMade img old now (of_backup r)
+  copy_removed (B.Copy C.Read) refused = copy_failed
+  copy_removed (B.Copy C.Write) refused = copy_failed
+  copy_removed (B.Copy (C.Full len need)) refused = copy_full len need refused gone
+  copy_removed (B.Copy C.Memory) refused = copy_wanting (inr gone)
+  copy_removed (B.Log L.Failed) refused = copy_untold (inr gone)
+  copy_removed (B.Log L.Memory) refused = copy_wanting (inr gone)
 
-  pub removed_made : (r : CopyRefusal) (e : Ending) → e ≡ of_copy r → IsNotCopied img r → CopyMade img old now e
+  pub removed_made : (r : BackupRefusal) (e : Ending) → e ≡ of_backup r → IsNotBackedUp img r → CopyMade img old now e
   removed_made r e is refused = subst (CopyMade img old now) (sym is) (copy_removed r refused)
 
-copy_known : (r : CopyRefusal) → EndsBackup (of_copy r)
-copy_known C.Read = tt
-copy_known C.Write = tt
-copy_known (C.Full len need) = inr (len, need, refl)
-copy_known C.Memory = tt
+copy_known : (r : BackupRefusal) → EndsBackup (of_backup r)
+copy_known (B.Copy C.Read) = tt
+copy_known (B.Copy C.Write) = tt
+copy_known (B.Copy (C.Full len need)) = inr (len, need, refl)
+copy_known (B.Copy C.Memory) = tt
+copy_known (B.Log L.Failed) = tt
+copy_known (B.Log L.Memory) = tt
 
-pub refused_known : (r : CopyRefusal) (e : Ending) → e ≡ of_copy r → EndsBackup e
+pub refused_known : (r : BackupRefusal) (e : Ending) → e ≡ of_backup r → EndsBackup e
 refused_known r e is = subst EndsBackup (sym is) (copy_known r)
 
 -- the copying of a file on a disk, from its opening on
@@ -170,6 +185,7 @@ module _ (was : History) (old now : Option History) where
       of _ (copy_full len need full gone) = disk_full len need can (same_or_undone was mid undone) full gone
       of _ copy_failed = disk_failed (inl (same_or_undone was mid undone))
       of _ (copy_wanting left) = disk_wanting (same_or_undone was mid undone) left
+      of _ (copy_untold left) = disk_unlogged (same_or_undone was mid undone) left
 
   pub halted_copied : (is : History) (halt : Halt) (e : Ending) → e ≡ of_halt halt → HaltsRightly (seen was) halt → HaltLeaves halt was is → now ≡ old → DiskCopied was is old now e
   halted_copied is halt e told right left same = subst (DiskCopied was is old now) (sym told) (of halt right left)
@@ -178,7 +194,7 @@ module _ (was : History) (old now : Option History) where
       of (H.Refused refusal) right left = disk_refused refusal right (same_or_undone was is left) same
       of H.Device right left = disk_failed left
       of H.Memory right left = disk_wanting (same_or_undone was is left) (inl same)
-      of H.Log right left = disk_unlogged (same_or_undone was is left) same
+      of H.Log right left = disk_unlogged (same_or_undone was is left) (inl same)
 
 pub halted_known : (halt : Halt) (e : Ending) → e ≡ of_halt halt → EndsBackup e
 halted_known halt e is = subst EndsBackup (sym is) (of halt)
@@ -254,7 +270,7 @@ module _ (file at_copy at_new : List ℕ) (old mid : List ℕ → Option History
   disk_found was is _ there stands (disk_full len need can kept full gone) done = cc
   disk_found was is _ there stands (disk_failed left) done = cc
   disk_found was is _ there stands (disk_wanting kept left) done = cc
-  disk_found was is _ there stands (disk_unlogged kept same) done = cc
+  disk_found was is _ there stands (disk_unlogged kept left) done = cc
 
   found : (e : Ending) → FileCopied file (old file) (mid file) (old at_new) (mid at_new) e → e ≡ Replied Reply.Copied → Found
   found e (file_untaken own new (inl missing)) done = absurd (let both : Missing file ≡ Replied Reply.Copied = sym missing.1 ∙ done in cc)
@@ -291,9 +307,9 @@ module _ (file at_copy at_new : List ℕ) (old mid : List ℕ → Option History
     inr (inr (inl refl)),
     λ copy. record { kept = inl (held_kept (old file) (mid file) was is there stands kept); copy = copy; left = inl left },
   )
-  disk_stopped was is _ there stands (disk_unlogged kept same) other rose = (
+  disk_stopped was is _ there stands (disk_unlogged kept left) other rose = (
     inr (inr (inr refl)),
-    λ copy. record { kept = inl (held_kept (old file) (mid file) was is there stands kept); copy = copy; left = inl (inl same) },
+    λ copy. record { kept = inl (held_kept (old file) (mid file) was is there stands kept); copy = copy; left = inl left },
   )
 
   untaken_cause : (e : Ending) → IsUntaken file (old file) e → (e ≡ DeviceFault → Rose before between) → BackupCause (file ∷ []) old before between e
@@ -349,3 +365,50 @@ module _ (file at_copy at_new : List ℕ) (old mid : List ℕ → Option History
             left = inr refl;
           };
         }
+
+-- what logs heard of the growths of a copy: none yet, or all of them
+module _ (img : List ℕ) where
+  pub untold_yet : (logs : List Logged) → RefusalHeard img logs logs (B.Copy C.Write)
+  untold_yet logs = record { given = []; rest = order_of (form_of img) img; split = refl; told = refl }
+
+  pub told_but : (old new : List Logged) → ToldAll (copy_growths img) old new → RefusalHeard img old new (B.Copy C.Write)
+  told_but old new told = record { given = order_of (form_of img) img; rest = []; split = sym (append-nil (order_of (form_of img) img)); told = told }
+
+  -- no new file was taken
+  pub untaken_told : (tells : Bool) (e : Ending) (logs : List Logged) → IsTrue tells → IsUntakenNew tells e → CopyingHeard img e logs logs
+  untaken_told tells e logs told (inl is) = inr (B.Copy C.Write, inr is, untold_yet logs)
+  untaken_told tells e logs told (inr (inl is)) = inr (B.Copy C.Memory, inl is, untold_yet logs)
+  untaken_told tells e logs told (inr (inr there)) = absurd (there.0 told)
+
+  no_copy : (r : BackupRefusal) → Replied Reply.Copied ≡ of_backup r → ⊥
+  no_copy (B.Copy C.Read) is = cc
+  no_copy (B.Copy C.Write) is = cc
+  no_copy (B.Copy (C.Full len need)) is = cc
+  no_copy (B.Copy C.Memory) is = cc
+  no_copy (B.Log L.Failed) is = cc
+  no_copy (B.Log L.Memory) is = cc
+
+  -- a copy was made, and then it ended so
+  pub made_told : (old new : List Logged) → CopyingHeard img (Replied Reply.Copied) old new → ToldAll (copy_growths img) old new
+  made_told old new (inl (is, told)) = told
+  made_told old new (inr (r, inl is, heard)) = absurd (no_copy r is)
+  made_told old new (inr (r, inr is, heard)) = absurd (let both : Replied Reply.Copied ≡ DeviceFault = is in cc)
+
+  pub made_as : (e : Ending) (old new : List Logged) → (e ≡ Replied Reply.Verified) ⊎ (e ≡ DeviceFault) ⊎ (e ≡ NoMemory) → ToldAll (copy_growths img) old new → CopyingHeard img e old new
+  made_as e old new (inl is) told = inl (inr is, told)
+  made_as e old new (inr (inl is)) told = inr (B.Copy C.Write, inr is, told_but old new told)
+  made_as e old new (inr (inr is)) told = inr (B.Copy C.Memory, inl is, told_but old new told)
+
+  -- it was verified, and that wasn't told for want of memory
+  no_verified : (r : BackupRefusal) → Replied Reply.Verified ≡ of_backup r → ⊥
+  no_verified (B.Copy C.Read) is = cc
+  no_verified (B.Copy C.Write) is = cc
+  no_verified (B.Copy (C.Full len need)) is = cc
+  no_verified (B.Copy C.Memory) is = cc
+  no_verified (B.Log L.Failed) is = cc
+  no_verified (B.Log L.Memory) is = cc
+
+  pub verified_but : (old new : List Logged) → CopyingHeard img (Replied Reply.Verified) old new → CopyingHeard img NoMemory old new
+  verified_but old new (inl (is, told)) = made_as NoMemory old new (inr (inr refl)) told
+  verified_but old new (inr (r, inl is, heard)) = absurd (no_verified r is)
+  verified_but old new (inr (r, inr is, heard)) = absurd (let both : Replied Reply.Verified ≡ DeviceFault = is in cc)

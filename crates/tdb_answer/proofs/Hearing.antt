@@ -1,14 +1,12 @@
 -- What logs heard of commands over files, from what they heard of their parts.
 use Rattle.std.proofs.Common.{◌≡◌, ◌⊎◌, ◌<◌, ℕ, ◌∷◌, [], true, false, length, List, Option, None, Some, Result, Ok, Err, refl, sym, ◌∙◌, ap, subst, inl, inr, arith}
-use Rattle.std.specs.Prelude.{Bool, nat_lt, if◌then◌else◌, IfErr}
-use Rattle.std.proofs.lemmas.Bool.{ltb-false}
+use Rattle.std.specs.Prelude.{IfErr}
 use Rattle.tdb_disk.specs.History.{History, seen}
 use Rattle.tdb_disk.specs.declared.files.TakeRefusal.{TakeRefusal}
 use Rattle.tdb_disk.specs.declared.files.TakeRefusal.TheVariants as Take
 use Rattle.tdb_check.specs.Report.{Counted}
-use Rattle.tdb_log.specs.Logs.{Logged, ToldAll, LastRefused}
+use Rattle.tdb_log.specs.Logs.{Logged, ToldAll, ToldUpTo, growth}
 use Rattle.tdb_log.specs.declared.log.LogRefusal.{LogRefusal}
-use Rattle.tdb_log.specs.declared.notice.Notice.TheVariants.{Grew}
 use Rattle.tdb_cmdline.specs.Ask.{Ask}
 use Rattle.tdb_cmdline.specs.CopyNames.{copy_name, IsNameAmong}
 use Rattle.tdb_cmdline.specs.declared.ask.Task.{Task}
@@ -27,26 +25,22 @@ use Rattle.tdb_answer.specs.declared.ending.Reply.TheVariants.{Copied, Verified}
 use Rattle.tdb_answer.specs.declared.commands.verify.Unverified.{Unverified}
 use Rattle.tdb_answer.specs.declared.commands.verify.Unverified.TheVariants.{Ends, Unprinted}
 use Rattle.tdb_answer.specs.Commands.Print.{PrintEnds}
-use Rattle.tdb_answer.specs.Commands.Backup.{CopyMade, copy_made, copy_full, copy_failed, copy_wanting}
+use Rattle.tdb_answer.specs.Commands.Backup.{CopyingHeard}
+use Rattle.tdb_answer.specs.Commands.Restore.{RestoreHeard}
 use Rattle.tdb_answer.specs.Commands.Session.{SessionHeard, served_halt}
 use Rattle.tdb_answer.specs.Commands.Turns.{TurnsHeard, turned_nothing}
 use Rattle.tdb_answer.specs.Commands.Verify.{tells_fault, IsKnown}
 use Rattle.tdb_answer.specs.Ending.{Untaken, status_of, of_halt}
-use Rattle.tdb_answer.specs.Heard.{FileHeard, heard_nothing, heard_halt, heard_more, growth, ToldFor, GrowthHeard, ActedHeard, ActHeard, LookHeard, PrintHeard, ConvertHeard, MergeHeard, MoveHeard, OpenHeard, BackupHeard, CountHeard, VerifyHeard, count_ending, TaskHeard, AskHeard}
+use Rattle.tdb_answer.specs.Heard.{FileHeard, heard_nothing, heard_halt, heard_more, ToldFor, GrowthHeard, ActedHeard, ActHeard, LookHeard, PrintHeard, ConvertHeard, MergeHeard, MoveHeard, OpenHeard, CopiedHeard, BackupHeard, CountHeard, VerifyHeard, count_ending, TaskHeard, AskHeard}
+use Rattle.tdb_answer.specs.Input.{Input}
+use Rattle.tdb_answer.proofs.BackingUp.{made_as, made_told, verified_but}
 use Rattle.tdb_answer.proofs.Copies.{Held}
+use Rattle.tdb_answer.proofs.Restoring.{restore_wanting}
 use Rattle.tdb_answer.proofs.Unlogged.{untaken_unlogged}
 use Rattle.tdb_answer.proofs.Verifying.{unverified_some}
 
--- a growth is told where there is one
-growth_some : (from to : ℕ) → from < to → growth from to ≡ Grew from to ∷ []
-growth_some from to lt = of (nat_lt from to) refl
-  where
-    of : (b : Bool) → nat_lt from to ≡ b → growth from to ≡ Grew from to ∷ []
-    of true is = ap (λ b. if b then Grew from to ∷ [] else []) is
-    of false is = absurd (omega (arith, ltb-false from to is, lt))
-
-pub grown_refused : (from to : ℕ) (old new : List Logged) (refusal : LogRefusal) → from < to → LastRefused refusal old new → GrowthHeard {A = Unit {0}} from to old new (Err F.Log)
-grown_refused from to old new refusal lt refused = (refusal, record { front = []; notice = Grew from to; rest = []; parts = growth_some from to lt; mid = old; told = refl; refused = refused })
+pub grown_refused : (from to : ℕ) (old new : List Logged) (refusal : LogRefusal) → ToldUpTo refusal (growth from to) old new → GrowthHeard {A = Unit {0}} from to old new (Err F.Log)
+grown_refused from to old new refusal refused = (refusal, refused)
 
 -- a command that is told no more
 told_none : (e : Ending) (logs : List Logged) → (e ≡ E.LogFault → ⊥) → ToldFor e [] logs logs
@@ -120,19 +114,17 @@ module _ (name : List ℕ) (refusal : TakeRefusal) (e : Ending) (logs : List Log
   open_untaken None gone = (refl, untaken_unlogged name refusal e untaken)
   open_untaken (Some h) gone = untaken_heard _ _ _ h gone
 
+  pub copied_untaken : (held : Option History) → (refusal ≡ Take.Missing → held ≡ None) → CopiedHeard held e logs logs
+  copied_untaken None gone = (refl, untaken_unlogged name refusal e untaken)
+  copied_untaken (Some h) gone = untaken_heard _ _ _ h gone
+
 -- a file that was taken is what was held at its name
 pub act_taken : (limit : ℕ) (held given : Option History) (h k : History) (e : Ending) (old new : List Logged) → held ≡ Some h → given ≡ Some k → ActedHeard limit (seen h) (length (seen k)) e old new → ActHeard limit held given e old new
 act_taken limit held given h k e old new there is heard = subst (λ (q : Option History × Option History). ActHeard limit q.0 q.1 e old new) (λ j. (sym there j, sym is j)) heard
 
--- no log refuses a printing, or a copy
+-- no log refuses a printing
 pub print_unlogged : (e : Ending) → PrintEnds e → e ≡ E.LogFault → ⊥
 print_unlogged e ends is = subst PrintEnds is ends
-
-pub copy_unlogged : (img : List ℕ) (old now : Option History) (e : Ending) → CopyMade img old now e → e ≡ E.LogFault → ⊥
-copy_unlogged img old now _ (copy_made copy there of) is = cc
-copy_unlogged img old now _ (copy_full len need full gone) is = cc
-copy_unlogged img old now _ copy_failed is = cc
-copy_unlogged img old now _ (copy_wanting left) is = cc
 
 -- what is heard of a file that was opened is the same however the command ends
 halt_no_reply : (halt : Halt) (reply : Reply) → E.Replied reply ≡ of_halt halt → ⊥
@@ -147,6 +139,19 @@ opened_as (Some h) reply e old new other (heard_nothing (inl is) same) = cc
 opened_as (Some h) reply e old new other (heard_nothing (inr is) same) = cc
 opened_as (Some h) reply e old new other (heard_halt halt is opened) = absurd (halt_no_reply halt reply is)
 opened_as (Some h) reply e old new other (heard_more o mid counted opened told) = heard_more o mid counted opened (subst (λ l. ToldFor e [] mid l) (sym told) (told_none e mid other))
+
+-- and so it is of a copy that was made
+pub copied_as : (held : Option History) (e : Ending) (old new : List Logged) → (e ≡ E.Replied Verified) ⊎ (e ≡ E.DeviceFault) ⊎ (e ≡ E.NoMemory) → CopiedHeard held (E.Replied Copied) old new → CopiedHeard held e old new
+copied_as None e old new how heard = (heard.0, other how)
+  where
+    other : (e ≡ E.Replied Verified) ⊎ (e ≡ E.DeviceFault) ⊎ (e ≡ E.NoMemory) → e ≡ E.LogFault → ⊥
+    other (inl is) logged = let both : E.Replied Verified ≡ E.LogFault = sym is ∙ logged in cc
+    other (inr (inl is)) logged = let both : E.DeviceFault ≡ E.LogFault = sym is ∙ logged in cc
+    other (inr (inr is)) logged = let both : E.NoMemory ≡ E.LogFault = sym is ∙ logged in cc
+copied_as (Some h) e old new how (heard_nothing (inl is) same) = cc
+copied_as (Some h) e old new how (heard_nothing (inr is) same) = cc
+copied_as (Some h) e old new how (heard_halt halt is opened) = absurd (halt_no_reply halt Copied is)
+copied_as (Some h) e old new how (heard_more o mid counted opened told) = heard_more o mid counted opened (made_as (opened_bytes (seen h)) e mid new how (made_told (opened_bytes (seen h)) mid new told))
 
 pub opened_below_as : (limit : ℕ) (held : Option History) (reply : Reply) (e : Ending) (old new : List Logged) → (e ≡ E.LogFault → ⊥) → PrintHeard limit held (E.Replied reply) old new → PrintHeard limit held e old new
 opened_below_as limit None reply e old new other heard = (heard.0, other)
@@ -187,29 +192,40 @@ pub open_wants : (held : Option History) (logs : List Logged) → OpenHeard held
 open_wants None logs = (refl, λ is. cc)
 open_wants (Some h) logs = heard_nothing (inr refl) refl
 
-pub counted_as : (own copy : Option History) (e : Ending) (old new : List Logged) → (e ≡ E.LogFault → ⊥) → CountHeard own copy (E.Replied Verified) old new → CountHeard own copy e old new
-counted_as own copy e old new other (inl heard) = inl (opened_as own Verified e old new other heard)
-counted_as own copy e old new other (inr on) = inr (on.0, on.1, on.2, on.3, opened_as copy Verified e on.1 new other on.4)
+pub copy_wants : (held : Option History) (logs : List Logged) → CopiedHeard held E.NoMemory logs logs
+copy_wants None logs = (refl, λ is. cc)
+copy_wants (Some h) logs = heard_nothing (inr refl) refl
+
+verified_wanting : (held : Option History) (old new : List Logged) → CopiedHeard held (E.Replied Verified) old new → CopiedHeard held E.NoMemory old new
+verified_wanting None old new heard = (heard.0, λ is. cc)
+verified_wanting (Some h) old new (heard_nothing (inl is) same) = cc
+verified_wanting (Some h) old new (heard_nothing (inr is) same) = cc
+verified_wanting (Some h) old new (heard_halt halt is opened) = absurd (halt_no_reply halt Verified is)
+verified_wanting (Some h) old new (heard_more o mid counted opened told) = heard_more o mid counted opened (verified_but (opened_bytes (seen h)) mid new told)
+
+counted_wanting : (own copy : Option History) (old new : List Logged) → CountHeard own copy (E.Replied Verified) old new → CountHeard own copy E.NoMemory old new
+counted_wanting own copy old new (inl heard) = inl (opened_as own Verified E.NoMemory old new (λ is. cc) heard)
+counted_wanting own copy old new (inr on) = inr (on.0, on.1, on.2, on.3, verified_wanting copy on.1 new on.4)
 
 -- a line wasn't told, and so no more was done: that a file is restored, or how many keys it has
 pub line_heard : (own copy : Option History) (refused : Ending) (u : Unverified) (old new : List Logged) → tells_fault refused ≡ true → OpenHeard own refused old new → (u ≡ Ends E.NoMemory) ⊎ (u ≡ Unprinted) → CountHeard own copy (count_ending {A = Unit {0}} (Err u)) old new
-line_heard own copy refused u old new tells heard (inl is) = subst (λ x. CountHeard own copy (count_ending {A = Unit {0}} (Err x)) old new) (sym is) (inr (refused, new, tells, heard, open_wants copy new))
-line_heard own copy refused u old new tells heard (inr is) = subst (λ x. CountHeard own copy (count_ending {A = Unit {0}} (Err x)) old new) (sym is) (inr (refused, new, tells, heard, open_wants copy new))
+line_heard own copy refused u old new tells heard (inl is) = subst (λ x. CountHeard own copy (count_ending {A = Unit {0}} (Err x)) old new) (sym is) (inr (refused, new, tells, heard, copy_wants copy new))
+line_heard own copy refused u old new tells heard (inr is) = subst (λ x. CountHeard own copy (count_ending {A = Unit {0}} (Err x)) old new) (sym is) (inr (refused, new, tells, heard, copy_wants copy new))
 
 pub count_heard : (own copy : Option History) (r : Result (Unit {0}) Unverified) (old new : List Logged) → IfErr r (λ u. (u ≡ Ends E.NoMemory) ⊎ (u ≡ Unprinted)) → CountHeard own copy (E.Replied Verified) old new → CountHeard own copy (count_ending r) old new
 count_heard own copy (Ok v) old new known heard = heard
-count_heard own copy (Err u) old new (inl is) heard = subst (λ x. CountHeard own copy (count_ending {A = Unit {0}} (Err x)) old new) (sym is) (counted_as own copy E.NoMemory old new (λ is. cc) heard)
-count_heard own copy (Err u) old new (inr is) heard = subst (λ x. CountHeard own copy (count_ending {A = Unit {0}} (Err x)) old new) (sym is) (counted_as own copy E.NoMemory old new (λ is. cc) heard)
+count_heard own copy (Err u) old new (inl is) heard = subst (λ x. CountHeard own copy (count_ending {A = Unit {0}} (Err x)) old new) (sym is) (counted_wanting own copy old new heard)
+count_heard own copy (Err u) old new (inr is) heard = subst (λ x. CountHeard own copy (count_ending {A = Unit {0}} (Err x)) old new) (sym is) (counted_wanting own copy old new heard)
 
 -- from what is heard of the files that are still to be backed up follows what is heard of all
 abbrev pub BackupCarries : List (List ℕ) → Held → List Logged → List (List ℕ) → List Logged → Type 0
 BackupCarries all held before rest between = (e : Ending) (after : List Logged) → BackupHeard rest held e between after → BackupHeard all held e before after
 
 module _ (all : List (List ℕ)) (held : Held) (start : List Logged) (file : List ℕ) (files : List (List ℕ)) (before : List Logged) (carries : BackupCarries all held start (file ∷ files) before) where
-  pub backup_on : (between : List Logged) → OpenHeard (held file) (E.Replied Copied) before between → BackupCarries all held start files between
+  pub backup_on : (between : List Logged) → CopiedHeard (held file) (E.Replied Copied) before between → BackupCarries all held start files between
   backup_on between one e after rest = carries e after (inr (between, one, rest))
 
-  pub backup_end : (e : Ending) (after : List Logged) → (e ≡ E.Replied Copied → ⊥) → OpenHeard (held file) e before after → BackupHeard all held e start after
+  pub backup_end : (e : Ending) (after : List Logged) → (e ≡ E.Replied Copied → ⊥) → CopiedHeard (held file) e before after → BackupHeard all held e start after
   backup_end e after other one = carries e after (inl (other, one))
 
 -- and the same of those that are still to be verified
@@ -232,36 +248,36 @@ heard_at suffix now old name file files e before after is same heard =
     (λ j. ((ap now is ∙ same file (inl (inl refl))) j, (ap (λ f. now (copy_name suffix f)) is ∙ same (copy_name suffix file) (inl (inr (inl refl)))) j)) heard
 
 -- want of memory for the words tells nothing
-task_unheard : (task : Task) (name : List ℕ) (held : Held) (logs : List Logged) → TaskHeard task name held held E.NoMemory logs logs
-task_unheard (On act) name held logs = of (held name)
+task_unheard : (input : Input) (task : Task) (name : List ℕ) (held : Held) (logs : List Logged) → TaskHeard input task name held held E.NoMemory logs logs
+task_unheard input (On act) name held logs = of (held name)
   where
     of : (o : Option History) → ActHeard act.limit o o E.NoMemory logs logs
     of None = (refl, λ is. cc)
     of (Some h) = heard_nothing (inr refl) refl
-task_unheard (Read look) name held logs = look_wanting (held name) logs
-task_unheard Rescue name held logs = (refl, λ is. cc)
-task_unheard (Print printout limit) name held logs = print_wanting limit (held name) logs
-task_unheard (Repack limit) name held logs = print_wanting limit (held name) logs
-task_unheard (Convert new made prefix) name held logs = convert_wanting made.limit (held name) logs
-task_unheard (Mend new) name held logs = (refl, λ is. cc)
-task_unheard (Merge into prefix limit) name held logs = merge_wanting limit (held name) logs
-task_unheard (Move key into limit) name held logs = move_wanting limit (held name) logs
-task_unheard (Create form) name held logs = (refl, λ is. cc)
-task_unheard (Restore limit) name held logs = (refl, λ is. cc)
-task_unheard (Backup more suffix) name held logs = inl ((λ is. cc), open_wants (held name) logs)
-task_unheard (Verify more suffix) name held logs = inl ((λ is. cc), inl (open_wants (held name) logs))
-task_unheard (Turns options) name held logs = of (held name)
+task_unheard input (Read look) name held logs = look_wanting (held name) logs
+task_unheard input Rescue name held logs = (refl, λ is. cc)
+task_unheard input (Print printout limit) name held logs = print_wanting limit (held name) logs
+task_unheard input (Repack limit) name held logs = print_wanting limit (held name) logs
+task_unheard input (Convert new made prefix) name held logs = convert_wanting made.limit (held name) logs
+task_unheard input (Mend new) name held logs = (refl, λ is. cc)
+task_unheard input (Merge into prefix limit) name held logs = merge_wanting limit (held name) logs
+task_unheard input (Move key into limit) name held logs = move_wanting limit (held name) logs
+task_unheard input (Create form) name held logs = (refl, λ is. cc)
+task_unheard input (Restore limit) name held logs = restore_wanting limit input (held name) logs
+task_unheard input (Backup more suffix) name held logs = inl ((λ is. cc), copy_wants (held name) logs)
+task_unheard input (Verify more suffix) name held logs = inl ((λ is. cc), inl (open_wants (held name) logs))
+task_unheard input (Turns options) name held logs = of (held name)
   where
     of : (o : Option History) → TurnsHeard options o E.NoMemory logs logs
     of None = (refl, λ is. cc)
     of (Some h) = turned_nothing tt refl
-task_unheard (Session limit) name held logs = of (held name)
+task_unheard input (Session limit) name held logs = of (held name)
   where
     of : (o : Option History) → SessionHeard limit o E.NoMemory logs logs
     of None = (refl, λ is. cc)
     of (Some h) = served_halt H.Memory refl (inl refl)
-task_unheard (Generate commands seed) name held logs = inl refl
+task_unheard input (Generate commands seed) name held logs = inl refl
 
-pub ask_unheard : (ask : Option Ask) (held : Held) (logs : List Logged) → AskHeard ask held held E.NoMemory logs logs
-ask_unheard None held logs = (refl, λ is. cc)
-ask_unheard (Some ask) held logs = task_unheard ask.task ask.file held logs
+pub ask_unheard : (input : Input) (ask : Option Ask) (held : Held) (logs : List Logged) → AskHeard input ask held held E.NoMemory logs logs
+ask_unheard input None held logs = (refl, λ is. cc)
+ask_unheard input (Some ask) held logs = task_unheard input ask.task ask.file held logs

@@ -1,5 +1,5 @@
 -- A new file holds no pair; and a sync leaves what was restored.
-use Rattle.std.proofs.Common.{◌≡◌, ℕ, ◌^◌, ◌<◌, ◌≤◌, List, [], Option, None, Some, length, refl, sym, ◌∙◌, ap, subst, inl, inr, arith}
+use Rattle.std.proofs.Common.{◌≡◌, ℕ, ◌^◌, ◌<◌, ◌≤◌, List, [], Option, None, Some, length, append-nil, refl, sym, ◌∙◌, ap, subst, inl, inr, arith}
 use Rattle.std.specs.Prelude.{IsTrue, IsSome, slice_index}
 use Rattle.std.specs.Map.{lookup}
 use Rattle.std.proofs.lemmas.Bool.{false≢true}
@@ -13,7 +13,10 @@ use Rattle.tdb_disk.proofs.Runs.{quiet_synced}
 use Rattle.tdb_space.specs.Pairs.{order_of, same_key}
 use Rattle.tdb_space.specs.Accepted.{AcceptWith}
 use Rattle.tdb_backup.specs.Building.{HoldsPairs}
-use Rattle.tdb_backup.specs.Restoring.{Restored}
+use Rattle.tdb_backup.specs.Restoring.{Restored, TextHeard, TextTold, keys_and_values}
+use Rattle.tdb_backup.proofs.Restored.{begun_none}
+use Rattle.tdb_log.specs.Logs.{Logged}
+use Rattle.tdb_log.specs.declared.log.LogRefusal.TheVariants as L
 use Rattle.tdb_answer.specs.Commands.Create.{new_file_of}
 use Rattle.tdb_backup.specs.Room.{room_in}
 use Rattle.tdb_backup.specs.declared.refusal.RestoreRefusal.{RestoreRefusal}
@@ -25,8 +28,8 @@ use Rattle.tdb_cmdline.specs.declared.ask.Task.TheVariants.{Restore}
 use Rattle.tdb_answer.specs.declared.ending.Ending.{Ending}
 use Rattle.tdb_answer.specs.declared.ending.Ending.TheVariants as E
 use Rattle.tdb_answer.specs.declared.ending.Reply.TheVariants as Reply
-use Rattle.tdb_answer.specs.Commands.Restore.{new_form, IsRestored, TextRefused, of_restore, ReadSo, read_whole, read_refused, HeardBy}
-use Rattle.tdb_answer.specs.Ending.{status_of, Untaken, TaskDue, TaskCause, task_due, task_failed, task_wanting, CountedBy}
+use Rattle.tdb_answer.specs.Commands.Restore.{new_form, IsRestored, RestoreHeard, RestoringHeard, TextRefused, of_restore, ReadSo, read_whole, read_refused, HeardBy}
+use Rattle.tdb_answer.specs.Ending.{status_of, Untaken, TaskDue, TaskCause, task_due, task_failed, task_unlogged, task_wanting, CountedBy}
 use Rattle.tdb_answer.specs.Input.{Input}
 use Rattle.tdb_answer.specs.Left.{RestoreLeaves}
 use Rattle.tdb_answer.specs.Reads.{AskCause}
@@ -72,6 +75,8 @@ module _ (input : Input) (limit : ℕ) (name : List ℕ) (held : Option History)
   refusal_cause (R.Malformed at) counted text rose = by_input (E.Malformed at) (read_refused (R.Malformed at) (λ e. cc) text rose)
   refusal_cause (R.Full len need) counted text rose = by_input (E.Replied (Reply.Full len need)) (read_refused (R.Full len need) (λ e. cc) text rose)
   refusal_cause R.Memory counted text rose = by_input E.NoMemory (read_refused R.Memory (λ e. cc) text rose)
+  refusal_cause (R.Log L.Failed) counted text rose = inl task_unlogged
+  refusal_cause (R.Log L.Memory) counted text rose = inl task_wanting
 
   -- they didn't
   pub refused_cause : (r : RestoreRefusal) (e : Ending) → e ≡ of_restore r → CountedBy before after e → (IsTrue input.tells → TextRefused input.text limit r) → (r ≡ R.Input → Rose input.faults_before input.faults_after)
@@ -99,6 +104,8 @@ refusal_status R.Input is = absurd (omega (arith, is))
 refusal_status (R.Malformed at) is = absurd (omega (arith, is))
 refusal_status (R.Full len need) is = absurd (omega (arith, is))
 refusal_status R.Memory is = absurd (omega (arith, is))
+refusal_status (R.Log L.Failed) is = absurd (omega (arith, is))
+refusal_status (R.Log L.Memory) is = absurd (omega (arith, is))
 
 refusal_asked : (r : RestoreRefusal) → of_restore r ≡ E.Usage → ⊥
 refusal_asked R.Io is = cc
@@ -106,20 +113,11 @@ refusal_asked R.Input is = cc
 refusal_asked (R.Malformed at) is = cc
 refusal_asked (R.Full len need) is = cc
 refusal_asked R.Memory is = cc
+refusal_asked (R.Log L.Failed) is = cc
+refusal_asked (R.Log L.Memory) is = cc
 
 pub refused_asked : (r : RestoreRefusal) (e : Ending) → e ≡ of_restore r → e ≡ E.Usage → ⊥
 refused_asked r e is usage = refusal_asked r (sym is ∙ usage)
-
--- nor one of a log
-refusal_unlogged : (r : RestoreRefusal) → of_restore r ≡ E.LogFault → ⊥
-refusal_unlogged R.Io is = cc
-refusal_unlogged R.Input is = cc
-refusal_unlogged (R.Malformed at) is = cc
-refusal_unlogged (R.Full len need) is = cc
-refusal_unlogged R.Memory is = cc
-
-pub refused_unlogged : (r : RestoreRefusal) (e : Ending) → e ≡ of_restore r → e ≡ E.LogFault → ⊥
-refused_unlogged r e is logged = refusal_unlogged r (sym is ∙ logged)
 
 -- what is left where the file is gone again
 pub removed_left : (limit : ℕ) (input : Input) (held now : Option History) (r : RestoreRefusal) (e : Ending) → held ≡ None → now ≡ None → e ≡ of_restore r → RestoreLeaves limit input held e now
@@ -144,6 +142,8 @@ refusal_counted start last R.Input low failed refused = record { never_falls = l
 refusal_counted start last (R.Malformed at) low failed refused = record { never_falls = low; failed = λ is. cc; sound = λ other. refused (λ e. cc) }
 refusal_counted start last (R.Full len need) low failed refused = record { never_falls = low; failed = λ is. cc; sound = λ other. refused (λ e. cc) }
 refusal_counted start last R.Memory low failed refused = record { never_falls = low; failed = λ is. cc; sound = λ other. refused (λ e. cc) }
+refusal_counted start last (R.Log L.Failed) low failed refused = record { never_falls = low; failed = λ is. cc; sound = λ other. refused (λ e. cc) }
+refusal_counted start last (R.Log L.Memory) low failed refused = record { never_falls = low; failed = λ is. cc; sound = λ other. refused (λ e. cc) }
 
 pub refused_counted : (start last : ℕ) (r : RestoreRefusal) (e : Ending) → e ≡ of_restore r → start ≤ last → (r ≡ R.Io → Rose start last) → ((r ≡ R.Io → ⊥) → last ≡ start) → CountedBy start last e
 refused_counted start last r e is low failed refused = subst (CountedBy start last) (sym is) (refusal_counted start last r low failed refused)
@@ -162,6 +162,47 @@ refusal_heard start last R.Io failed refused = record { failed = λ is. cc; told
 refusal_heard start last (R.Malformed at) failed refused = record { failed = λ is. cc; told = inl (refused (λ e. cc)) }
 refusal_heard start last (R.Full len need) failed refused = record { failed = λ is. cc; told = inl (refused (λ e. cc)) }
 refusal_heard start last R.Memory failed refused = record { failed = λ is. cc; told = inl (refused (λ e. cc)) }
+refusal_heard start last (R.Log L.Failed) failed refused = record { failed = λ is. cc; told = inl (refused (λ e. cc)) }
+refusal_heard start last (R.Log L.Memory) failed refused = record { failed = λ is. cc; told = inl (refused (λ e. cc)) }
 
 pub refused_heard : (start last : ℕ) (r : RestoreRefusal) (e : Ending) → e ≡ of_restore r → (r ≡ R.Input → Rose start last) → ((r ≡ R.Input → ⊥) → last ≡ start) → HeardBy start last e
 refused_heard start last r e is failed refused = subst (HeardBy start last) (sym is) (refusal_heard start last r failed refused)
+
+-- what logs heard of the growths of a restored file: none yet, or all of them
+module _ (limit : ℕ) (text : List ℕ) where
+  pub untold_yet : (logs : List Logged) → TextHeard limit new_form (new_file_of new_form) text logs logs R.Io
+  untold_yet logs = ([], begun_none text, record { given = []; rest = []; split = refl; told = refl })
+
+  pub told_but : (old new : List Logged) → TextTold limit new_form (new_file_of new_form) text old new → TextHeard limit new_form (new_file_of new_form) text old new R.Io
+  told_but old new (pairs, dump, told) =
+      (pairs, (text, [], sym (append-nil text), dump), record { given = keys_and_values pairs; rest = []; split = sym (append-nil (keys_and_values pairs)); told = told })
+
+module _ (limit : ℕ) (input : Input) where
+  -- no file was at the name
+  pub fresh_heard : (held : Option History) → held ≡ None → (e : Ending) (old new : List Logged) → (IsTrue input.tells → RestoringHeard limit input.text e old new) → RestoreHeard limit input held e old new
+  fresh_heard held none e old new heard = subst (λ o. RestoreHeard limit input o e old new) (sym none) heard
+
+  -- want of memory before a file is made tells nothing
+  pub restore_wanting : (held : Option History) (logs : List Logged) → RestoreHeard limit input held E.NoMemory logs logs
+  restore_wanting None logs = λ told. inr (R.Memory, inl refl, untold_yet limit input.text logs)
+  restore_wanting (Some h) logs = (refl, λ is. cc)
+
+  -- no file was taken
+  module _ (name : List ℕ) (held : Option History) (logs : List Logged) where
+    failing : (e : Ending) → e ≡ E.DeviceFault → (o : Option History) → RestoreHeard limit input o e logs logs
+    failing e is None = λ told. inr (R.Io, inr is, untold_yet limit input.text logs)
+    failing e is (Some h) = (refl, λ logged. let both : E.DeviceFault ≡ E.LogFault = sym is ∙ logged in cc)
+
+    there : (e : Ending) → e ≡ E.There name → (o : Option History) → IsSome o → RestoreHeard limit input o e logs logs
+    there e is None some = absurd (false≢true some)
+    there e is (Some h) some = (refl, λ logged. let both : E.There name ≡ E.LogFault = sym is ∙ logged in cc)
+
+    wanting : (e : Ending) → e ≡ E.NoMemory → RestoreHeard limit input held e logs logs
+    wanting e is = subst (λ x. RestoreHeard limit input held x logs logs) (sym is) (restore_wanting held logs)
+
+    pub untaken_heard : (refusal : TakeRefusal) (e : Ending) → (refusal ≡ Take.Missing → ⊥) → (refusal ≡ Take.There → IsSome held) → Untaken name refusal e → RestoreHeard limit input held e logs logs
+    untaken_heard Take.Missing e free some is = absurd (free refl)
+    untaken_heard Take.There e free some (inl is) = there e is held (some refl)
+    untaken_heard Take.There e free some (inr is) = wanting e is
+    untaken_heard Take.Failed e free some is = failing e is held
+    untaken_heard Take.Memory e free some is = wanting e is

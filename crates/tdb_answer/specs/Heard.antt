@@ -1,11 +1,10 @@
 -- What the logs of a run are told.
-use Rattle.std.specs.Prelude.{ℕ, ◌≡◌, ◌≢◌, ◌⊎◌, List, [], ◌∷◌, Option, None, Some, Result, Ok, Err, true, length, if◌then◌else◌, nat_lt}
+use Rattle.std.specs.Prelude.{ℕ, ◌≡◌, ◌≢◌, ◌⊎◌, List, [], ◌∷◌, Option, None, Some, Result, Ok, Err, true, length}
 use Rattle.tdb_disk.specs.History.{History, seen}
 use Rattle.tdb_check.specs.Report.{Counted}
-use Rattle.tdb_log.specs.Logs.{Logged, ToldAll, ToldUpTo}
+use Rattle.tdb_log.specs.Logs.{Logged, ToldAll, ToldUpTo, growth}
 use Rattle.tdb_log.specs.declared.log.LogRefusal.{LogRefusal}
 use Rattle.tdb_log.specs.declared.notice.Notice.{Notice}
-use Rattle.tdb_log.specs.declared.notice.Notice.TheVariants.{Grew}
 use Rattle.tdb_open.specs.Notices.{OpeningHeard, ReadingHeard, BelowHeard, ReadingBelowHeard}
 use Rattle.tdb_open.specs.Opening.{opened_bytes}
 use Rattle.tdb_open.specs.declared.halt.Fault.{Fault}
@@ -22,11 +21,14 @@ use Rattle.tdb_answer.specs.declared.ending.Reply.{Reply}
 use Rattle.tdb_answer.specs.declared.ending.Reply.TheVariants.{Copied, Verified}
 use Rattle.tdb_answer.specs.declared.commands.verify.Unverified.{Unverified}
 use Rattle.tdb_answer.specs.declared.commands.verify.Unverified.TheVariants.{Ends, Unprinted}
+use Rattle.tdb_answer.specs.Commands.Backup.{CopyingHeard}
 use Rattle.tdb_answer.specs.Commands.Generate.{GenHeard}
+use Rattle.tdb_answer.specs.Commands.Restore.{RestoreHeard}
 use Rattle.tdb_answer.specs.Commands.Session.{SessionHeard}
 use Rattle.tdb_answer.specs.Commands.Turns.{TurnsHeard}
 use Rattle.tdb_answer.specs.Commands.Verify.{tells_fault}
 use Rattle.tdb_answer.specs.Ending.{of_halt, NothingHeard}
+use Rattle.tdb_answer.specs.Input.{Input}
 
 -- What logs heard of a command over one file that ended so, by what they hear of its opening and of what the command
 -- did then: it wasn't taken, for a failed call or want of memory; or it wasn't opened; or it was, with the counts of
@@ -35,10 +37,6 @@ pub data FileHeard (read : List ℕ) (Opening : List Logged → List Logged → 
   heard_nothing : (e ≡ DeviceFault) ⊎ (e ≡ NoMemory) → new ≡ old → FileHeard read Opening e More old new
   heard_halt : (halt : Halt) → e ≡ of_halt halt → Opening old new (Err halt) → FileHeard read Opening e More old new
   heard_more : (o : Opened) (mid : List Logged) → Counted read o.report → Opening old mid (Ok o) → More mid new → FileHeard read Opening e More old new
-
--- that a file grew from one length to another, if it did
-abbrev pub growth : ℕ → ℕ → List Notice
-growth from to = if nat_lt from to then Grew from to ∷ [] else []
 
 -- Notices were told by a command that ended so: all of them; or, where a log failed, those before one that the last log
 -- refused; and after a failed call none.
@@ -100,25 +98,30 @@ abbrev pub MoveHeard : ℕ → Option History → Ending → List Logged → Lis
 MoveHeard limit None e old new = NothingHeard e old new
 MoveHeard limit (Some h) e old new = FileHeard (opened_bytes (seen h)) (BelowHeard limit (seen h)) e (λ mid later. Unit {0}) old new
 
--- and where it was opened to be copied or counted
+-- and where it was opened to be counted
 abbrev pub OpenHeard : Option History → Ending → List Logged → List Logged → Type 0
 OpenHeard None e old new = NothingHeard e old new
 OpenHeard (Some h) e old new = FileHeard (opened_bytes (seen h)) (OpeningHeard (seen h)) e (ToldFor e []) old new
 
--- What logs heard of a backup of these files that ended so: the opening of each, one after the other, up to the one at
--- which it ended.
+-- and where it was opened to be copied: its opening, and then each growth of the copy
+abbrev pub CopiedHeard : Option History → Ending → List Logged → List Logged → Type 0
+CopiedHeard None e old new = NothingHeard e old new
+CopiedHeard (Some h) e old new = FileHeard (opened_bytes (seen h)) (OpeningHeard (seen h)) e (CopyingHeard (opened_bytes (seen h)) e) old new
+
+-- What logs heard of a backup of these files that ended so: the opening of each and the growths of its copy, one after
+-- the other, up to the one at which it ended.
 abbrev pub BackupHeard : List (List ℕ) → (List ℕ → Option History) → Ending → List Logged → List Logged → Type 0
 BackupHeard [] held e old new = NothingHeard e old new
 BackupHeard (file ∷ files) held e old new =
-    ((e ≢ Replied Copied) × OpenHeard (held file) e old new)
-    ⊎ ((mid : List Logged) × OpenHeard (held file) (Replied Copied) old mid × BackupHeard files held e mid new)
+    ((e ≢ Replied Copied) × CopiedHeard (held file) e old new)
+    ⊎ ((mid : List Logged) × CopiedHeard (held file) (Replied Copied) old mid × BackupHeard files held e mid new)
 
 -- What logs heard of a file that is verified, which ended so: its opening; or, where it is refused for a fault, that
--- and then the opening of its copy.
+-- and then the opening of its copy and the growths of the file that is made of that.
 abbrev pub CountHeard : Option History → Option History → Ending → List Logged → List Logged → Type 0
 CountHeard own copy e old new =
     OpenHeard own e old new
-    ⊎ ((refused : Ending) × (mid : List Logged) × (tells_fault refused ≡ true) × OpenHeard own refused old mid × OpenHeard copy e mid new)
+    ⊎ ((refused : Ending) × (mid : List Logged) × (tells_fault refused ≡ true) × OpenHeard own refused old mid × CopiedHeard copy e mid new)
 
 -- the ending of a verification whose files so far were verified so; where the output failed, how it would have ended
 -- isn't known (`rest_of`)
@@ -134,27 +137,27 @@ VerifyHeard suffix (file ∷ files) held e old new =
     ((e ≢ Replied Verified) × CountHeard (held file) (held (copy_name suffix file)) e old new)
     ⊎ ((mid : List Logged) × CountHeard (held file) (held (copy_name suffix file)) (Replied Verified) old mid × VerifyHeard suffix files held e mid new)
 
--- What logs heard of a task on the file of this name that ended so, by what was held at each name before and after. The
--- making of a file, of the pairs on the input too, a rescue and a mending tell them nothing.
-abbrev pub TaskHeard : Task → List ℕ → (List ℕ → Option History) → (List ℕ → Option History) → Ending → List Logged → List Logged → Type 0
-TaskHeard (On act) name held now e old new = ActHeard act.limit (held name) (now name) e old new
-TaskHeard (Read look) name held now e old new = LookHeard (held name) e old new
-TaskHeard Rescue name held now e old new = NothingHeard e old new
-TaskHeard (Print printout limit) name held now e old new = PrintHeard limit (held name) e old new
-TaskHeard (Repack limit) name held now e old new = PrintHeard limit (held name) e old new
-TaskHeard (Create form) name held now e old new = NothingHeard e old new
-TaskHeard (Restore limit) name held now e old new = NothingHeard e old new
-TaskHeard (Backup more suffix) name held now e old new = BackupHeard (name ∷ more) held e old new
-TaskHeard (Verify more suffix) name held now e old new = VerifyHeard suffix (name ∷ more) held e old new
-TaskHeard (Convert other made prefix) name held now e old new = ConvertHeard made.limit (held name) e old new
-TaskHeard (Mend other) name held now e old new = NothingHeard e old new
-TaskHeard (Merge into prefix limit) name held now e old new = MergeHeard limit (held name) e old new
-TaskHeard (Move key into limit) name held now e old new = MoveHeard limit (held name) e old new
-TaskHeard (Turns options) name held now e old new = TurnsHeard options (held name) e old new
-TaskHeard (Session limit) name held now e old new = SessionHeard limit (held name) e old new
-TaskHeard (Generate commands seed) name held now e old new = GenHeard commands seed (now name) e old new
+-- What logs heard of a task on the file of this name that ended so, by the input and what was held at each name before
+-- and after. The making of an empty file, a rescue and a mending tell them nothing.
+abbrev pub TaskHeard : Input → Task → List ℕ → (List ℕ → Option History) → (List ℕ → Option History) → Ending → List Logged → List Logged → Type 0
+TaskHeard input (On act) name held now e old new = ActHeard act.limit (held name) (now name) e old new
+TaskHeard input (Read look) name held now e old new = LookHeard (held name) e old new
+TaskHeard input Rescue name held now e old new = NothingHeard e old new
+TaskHeard input (Print printout limit) name held now e old new = PrintHeard limit (held name) e old new
+TaskHeard input (Repack limit) name held now e old new = PrintHeard limit (held name) e old new
+TaskHeard input (Create form) name held now e old new = NothingHeard e old new
+TaskHeard input (Restore limit) name held now e old new = RestoreHeard limit input (held name) e old new
+TaskHeard input (Backup more suffix) name held now e old new = BackupHeard (name ∷ more) held e old new
+TaskHeard input (Verify more suffix) name held now e old new = VerifyHeard suffix (name ∷ more) held e old new
+TaskHeard input (Convert other made prefix) name held now e old new = ConvertHeard made.limit (held name) e old new
+TaskHeard input (Mend other) name held now e old new = NothingHeard e old new
+TaskHeard input (Merge into prefix limit) name held now e old new = MergeHeard limit (held name) e old new
+TaskHeard input (Move key into limit) name held now e old new = MoveHeard limit (held name) e old new
+TaskHeard input (Turns options) name held now e old new = TurnsHeard options (held name) e old new
+TaskHeard input (Session limit) name held now e old new = SessionHeard limit (held name) e old new
+TaskHeard input (Generate commands seed) name held now e old new = GenHeard commands seed (now name) e old new
 
 -- and of a run that is asked for this, or for nothing
-abbrev pub AskHeard : Option Ask → (List ℕ → Option History) → (List ℕ → Option History) → Ending → List Logged → List Logged → Type 0
-AskHeard None held now e old new = NothingHeard e old new
-AskHeard (Some ask) held now e old new = TaskHeard ask.task ask.file held now e old new
+abbrev pub AskHeard : Input → Option Ask → (List ℕ → Option History) → (List ℕ → Option History) → Ending → List Logged → List Logged → Type 0
+AskHeard input None held now e old new = NothingHeard e old new
+AskHeard input (Some ask) held now e old new = TaskHeard input ask.task ask.file held now e old new

@@ -421,4 +421,4 @@ pub record Accounted (run : Run) : Type 0 where
 pub record LogsAreTold (run : Run) (old new : List Logged) : Type 0 where
   pub ending : Ending
   pub exits : (run.status ≡ status_of ending) ⊎ ((run.status ≡ 5) × TakesMemory ending) ⊎ (run.status ≡ 8)
-  pub heard : AskHeard run.ask run.old run.now ending old new
+  pub heard : AskHeard run.input run.ask run.old run.now ending old new

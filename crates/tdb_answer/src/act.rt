@@ -29,7 +29,7 @@ use crate::ending::{Ending, Reply};
 use std::alloc::Global;
 use tdb_cmdline::{Act, Verb};
 use tdb_disk::{Disk, Files, Take};
-use tdb_log::{Logs, Notice};
+use tdb_log::{Logs, tell_growth};
 use tdb_open::{Fault, Halt, Opened};
 
 /// Acts on an opened file.
@@ -77,17 +77,14 @@ fn perform<D: Disk>(alloc: Global, act: &Act, disk: &mut D, opened: &Opened) -> 
 
 /// Tells the last log that the file on a disk has grown since it had so many bytes, if it has. A log that doesn't take
 /// that has failed, also where it wants memory: what was done stands.
-fn tell_growth<D: Disk, L: Logs>(disk: &mut D, from: u64, logs: &mut L) -> Result<(), Fault>
+fn tell_grown<D: Disk, L: Logs>(disk: &mut D, from: u64, logs: &mut L) -> Result<(), Fault>
     ensures history { D.history disk.new ≡ D.history disk.old }
     ensures known { IfErr result (λ fault. (fault ≡ FaultIs.Device) ⊎ (fault ≡ FaultIs.Log)) }
     ensures cause { HasCauseOf FaultIs.Device (D.faults disk.old) (D.faults disk.new) result }
     ensures heard { GrowthHeard from (D.size disk.old) (L.logs logs.old) (L.logs logs.new) result }
 {
     let to = disk.len()?;
-    if to <= from {
-        return Ok(());
-    }
-    match logs.note(&Notice::Grew { from, to }) {
+    match tell_growth(from, to, logs) {
         Ok(()) => Ok(()),
         Err(_) => Err(Fault::Log),
     }
@@ -111,7 +108,7 @@ fn perform_and_tell<D: Disk, L: Logs>(
 {
     match perform(alloc, act, disk, opened)? {
         Reply::Done => {
-            tell_growth(disk, opened.len, logs)?;
+            tell_grown(disk, opened.len, logs)?;
             Ok(Reply::Done)
         }
         reply => Ok(reply),

@@ -70,7 +70,7 @@ pub fn answer_ask<F: Files, S: Source, K: Sink, L: Logs>(
         → SessionHeld limit (input_by S.tells (S.left input.old) (S.faults input.old) (S.faults input.new)) (F.held files.old (string_bytes ask.now.file)) (F.held files.new (string_bytes ask.now.file)) K.tells (K.written output.old) (K.written output.new) (L.logs logs.old) (L.logs logs.new) result }
     ensures heard { HeardBy (S.faults input.old) (S.faults input.new) (ending_of result) }
     ensures unread { reads_input ask.now.task ≡ false → (input.new ≡ input.old) × (of_input (ending_of result) ≡ false) }
-    ensures told { IsTrue F.D.tells → TaskHeard ask.now.task (string_bytes ask.now.file) (F.held files.old) (F.held files.new) (ending_of result) (L.logs logs.old) (L.logs logs.new) }
+    ensures told { IsTrue F.D.tells → TaskHeard (input_by S.tells (S.left input.old) (S.faults input.old) (S.faults input.new)) ask.now.task (string_bytes ask.now.file) (F.held files.old) (F.held files.new) (ending_of result) (L.logs logs.old) (L.logs logs.new) }
 {
     let name = ask.file.as_str();
     match &ask.task {
@@ -85,7 +85,7 @@ pub fn answer_ask<F: Files, S: Source, K: Sink, L: Logs>(
             let creation = create_file(alloc, name, *file, files);
             Ok(Ending::made(alloc, name, creation))
         }
-        Task::Restore { limit } => Ok(restore_file(alloc, name, *limit, files, input)),
+        Task::Restore { limit } => Ok(restore_file(alloc, name, *limit, files, input, logs)),
         Task::Backup { more, suffix } => {
             Ok(back_up(alloc, name, more.as_slice(), suffix.as_str(), files, logs))
         }

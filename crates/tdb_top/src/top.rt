@@ -57,7 +57,7 @@ fn answer<F: Files, S: Source, K: Sink, L: Logs>(
         → SessionHeld limit (input_by S.tells (S.left input.old) (S.faults input.old) (S.faults input.new)) (F.held files.old name) (F.held files.new name) K.tells (K.written output.old) (K.written output.new) (L.logs logs.old) (L.logs logs.new) result }
     ensures usage { ending_of result ≡ Usage → ask_of (map string_bytes words.now) ≡ None }
     ensures usage_exact { ask_of (map string_bytes words.now) ≡ None → (ending_of result ≡ Usage) ⊎ (ending_of result ≡ NoMemory) }
-    ensures told { IsTrue F.D.tells → AskHeard (ask_of (map string_bytes words.now)) (F.held files.old) (F.held files.new) (ending_of result) (L.logs logs.old) (L.logs logs.new) }
+    ensures told { IsTrue F.D.tells → AskHeard (input_by S.tells (S.left input.old) (S.faults input.old) (S.faults input.new)) (ask_of (map string_bytes words.now)) (F.held files.old) (F.held files.new) (ending_of result) (L.logs logs.old) (L.logs logs.new) }
 {
     match Ask::of(alloc, words) {
         Ok(Some(ask)) => answer_ask(alloc, &ask, files, input, output, logs),
@@ -177,9 +177,9 @@ fn finish<K: Sink>(alloc: Global, answered: &Result<Ending, Unprinted>, output: 
 /// is removed again.
 ///
 /// The last of the logs is told what becomes of each file that is opened: the undo, what the check counted or the fault
-/// for which the file is refused, the growth by an act, and what turns and sessions do. A notice that it refuses ends
-/// the run. What an act did stands then: where the log doesn't take its growth, the status is 10, also where the log
-/// wants memory.
+/// for which the file is refused, the growth by an act, and what turns and sessions do; and each growth of the file that
+/// a `restore`, a `gen`, a `backup` or a restored copy makes. A notice that it refuses ends the run. What an act did
+/// stands then: where the log doesn't take its growth, the status is 10, also where the log wants memory.
 pub fn run<F: Files, S: Source, K: Sink, L: Logs>(
     alloc: Global,
     words: &[String],

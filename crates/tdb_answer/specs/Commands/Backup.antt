@@ -6,8 +6,11 @@ use Rattle.tdb_disk.specs.Stop.{Quiet}
 use Rattle.tdb_space.specs.Form.{form_of}
 use Rattle.tdb_space.specs.Pairs.{order_of, map_of}
 use Rattle.tdb_space.specs.Accepted.{Accept}
-use Rattle.tdb_backup.specs.Building.{CopyCause, HoldsPairs}
+use Rattle.tdb_backup.specs.Building.{BackupRefused, CopyCause, HoldsPairs}
+use Rattle.tdb_backup.specs.Growths.{CopyHeard, growths_of}
 use Rattle.tdb_answer.specs.Commands.Create.{new_file_of}
+use Rattle.tdb_backup.specs.declared.refusal.BackupRefusal.{BackupRefusal}
+use Rattle.tdb_backup.specs.declared.refusal.BackupRefusal.TheVariants as B
 use Rattle.tdb_backup.specs.declared.refusal.CopyRefusal.{CopyRefusal}
 use Rattle.tdb_backup.specs.declared.refusal.CopyRefusal.TheVariants as C
 use Rattle.tdb_answer.specs.declared.ending.Ending.{Ending}
@@ -17,7 +20,10 @@ use Rattle.tdb_open.specs.declared.halt.Refusal.{Refusal}
 use Rattle.tdb_open.specs.declared.limits.TheConstants.{LONGEST_FILE}
 use Rattle.tdb_cmdline.specs.CopyNames.{copy_name, new_name, IsNameAmong}
 use Rattle.tdb_answer.specs.Commands.Check.{keys_in}
-use Rattle.tdb_open.specs.Opening.{opened_bytes, CanOpen, IsRefused, SameOrUndone, UndoneIfOpen, LookBroken, HeldOrUndone, HeldBroken}
+use Rattle.tdb_answer.specs.Ending.{of_halt}
+use Rattle.tdb_log.specs.Logs.{Logged, ToldAll}
+use Rattle.tdb_log.specs.declared.notice.Notice.{Notice}
+use Rattle.tdb_open.specs.Opening.{of_log, opened_bytes, CanOpen, IsRefused, SameOrUndone, UndoneIfOpen, LookBroken, HeldOrUndone, HeldBroken}
 
 -- A file is a copy of an image: it is accepted, has the same form and the same map, and all of it is on the medium. It is
 -- a new file to which the pairs of the image were added in their order.
@@ -39,6 +45,29 @@ of_copy C.Read = DeviceFault
 of_copy C.Write = DeviceFault
 of_copy (C.Full len need) = Replied (Reply.Full len need)
 of_copy C.Memory = NoMemory
+
+-- the same where logs are told of each growth of the new file
+abbrev pub IsNotBackedUp : List ℕ → BackupRefusal → Type 0
+IsNotBackedUp img refusal = (made : List ℕ) × BackupRefused (new_file_of (form_of img)) (form_of img) made (order_of (form_of img) img) LONGEST_FILE refusal
+
+abbrev pub of_backup : BackupRefusal → Ending
+of_backup (B.Copy refusal) = of_copy refusal
+of_backup (B.Log refusal) = of_halt (of_log refusal)
+
+-- the growths of a new file as all pairs of an image are added to it in their order
+abbrev pub copy_growths : List ℕ → List Notice
+copy_growths img = growths_of LONGEST_FILE (form_of img) (new_file_of (form_of img)) (order_of (form_of img) img)
+
+-- what logs heard of them where not all pairs were added
+abbrev pub RefusalHeard : List ℕ → List Logged → List Logged → BackupRefusal → Type 0
+RefusalHeard img old new refusal = CopyHeard LONGEST_FILE (form_of img) (new_file_of (form_of img)) (order_of (form_of img) img) old new refusal
+
+-- What logs heard of the growths of a copy of an image by an ending: of all of them, where it was made; else as why not
+-- all pairs came into it says. A call that failed may come behind either.
+abbrev pub CopyingHeard : List ℕ → Ending → List Logged → List Logged → Type 0
+CopyingHeard img e old new =
+    (((e ≡ Replied Reply.Copied) ⊎ (e ≡ Replied Reply.Verified)) × ToldAll (copy_growths img) old new)
+    ⊎ ((refusal : BackupRefusal) × ((e ≡ of_backup refusal) ⊎ (e ≡ DeviceFault)) × RefusalHeard img old new refusal)
 
 -- what is held at a name is as before, or was removed
 abbrev pub IsLeftOf : Option History → Option History → Type 0
@@ -144,6 +173,7 @@ pub data CopyMade (img : List ℕ) (old now : Option History) : Ending → Type 
   copy_full : (len need : ℕ) → IsNotCopied img (C.Full len need) → now ≡ None → CopyMade img old now (Replied (Reply.Full len need))
   copy_failed : CopyMade img old now DeviceFault
   copy_wanting : IsLeftOf old now → CopyMade img old now NoMemory
+  copy_untold : IsLeftOf old now → CopyMade img old now LogFault
 
 -- How the copying of the file on a disk to a new file ends: what is left of that disk, and what stands at the name of
 -- the new file.
@@ -153,7 +183,7 @@ pub data DiskCopied (was is : History) (old now : Option History) : Ending → T
   disk_full : (len need : ℕ) → CanOpen (seen was) → SameOrUndone was is → IsNotCopied (opened_bytes (seen was)) (C.Full len need) → now ≡ None → DiskCopied was is old now (Replied (Reply.Full len need))
   disk_failed : LookBroken was is → DiskCopied was is old now DeviceFault
   disk_wanting : SameOrUndone was is → IsLeftOf old now → DiskCopied was is old now NoMemory
-  disk_unlogged : SameOrUndone was is → now ≡ old → DiskCopied was is old now LogFault
+  disk_unlogged : SameOrUndone was is → IsLeftOf old now → DiskCopied was is old now LogFault
 
 -- why a file isn't taken that is to be there
 abbrev pub IsUntaken : List ℕ → Option History → Ending → Type 0

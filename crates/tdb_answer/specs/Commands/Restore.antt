@@ -1,12 +1,15 @@
 -- The command that makes a file of the pairs of a dump text: what it leaves, and why it doesn't.
-use Rattle.std.specs.Prelude.{◌≡◌, ◌≢◌, ◌⊎◌, ℕ, Bool, true, false, IsTrue, List}
+use Rattle.std.specs.Prelude.{◌≡◌, ◌≢◌, ◌⊎◌, ℕ, Bool, true, false, IsTrue, List, Option, None, Some}
 use Rattle.tdb_words.specs.declared.word.Order.TheVariants.{Little}
 use Rattle.tdb_words.specs.declared.hash.HashKind.TheVariants.{Old}
 use Rattle.tdb_disk.specs.Count.{Rose}
 use Rattle.tdb_disk.specs.History.{History, seen}
 use Rattle.tdb_disk.specs.Stop.{Quiet}
 use Rattle.tdb_space.specs.Form.{Form}
-use Rattle.tdb_backup.specs.Restoring.{Restored, RestoreCause}
+use Rattle.tdb_backup.specs.Restoring.{Restored, RestoreCause, TextHeard, TextTold}
+use Rattle.tdb_log.specs.Logs.{Logged}
+use Rattle.tdb_open.specs.Opening.{of_log}
+use Rattle.tdb_answer.specs.Ending.{of_halt, NothingHeard}
 use Rattle.tdb_answer.specs.Commands.Create.{new_file_of}
 use Rattle.tdb_backup.specs.declared.refusal.RestoreRefusal.{RestoreRefusal}
 use Rattle.tdb_backup.specs.declared.refusal.RestoreRefusal.TheVariants as R
@@ -39,6 +42,7 @@ of_restore R.Io = DeviceFault
 of_restore (R.Malformed at) = Malformed at
 of_restore (R.Full len need) = Replied (Reply.Full len need)
 of_restore R.Memory = NoMemory
+of_restore (R.Log refusal) = of_halt (of_log refusal)
 
 -- How a restore ends over an input, but for a failed call of the files: its text is whole and all pairs came into the
 -- file; or one of the causes why they don't.
@@ -65,3 +69,15 @@ of_input LogFault = false
 pub record HeardBy (before after : ℕ) (e : Ending) : Type 0 where
   pub failed : e ≡ InputFault → Rose before after
   pub told : (after ≡ before) ⊎ (e ≡ InputFault) ⊎ (e ≡ DeviceFault)
+
+-- What logs heard of the growths of a file that was to be made of the pairs of a text, by an ending: of all of them,
+-- where it was made; else as why not all pairs came into it says. A call that failed may come behind either.
+abbrev pub RestoringHeard : ℕ → List ℕ → Ending → List Logged → List Logged → Type 0
+RestoringHeard limit text e old new =
+    ((e ≡ Replied Reply.Restored) × TextTold limit new_form (new_file_of new_form) text old new)
+    ⊎ ((refusal : RestoreRefusal) × ((e ≡ of_restore refusal) ⊎ (e ≡ DeviceFault)) × TextHeard limit new_form (new_file_of new_form) text old new refusal)
+
+-- What they heard of a restore to a name, over an input: nothing, where a file was there.
+abbrev pub RestoreHeard : ℕ → Input → Option History → Ending → List Logged → List Logged → Type 0
+RestoreHeard limit input None e old new = IsTrue input.tells → RestoringHeard limit input.text e old new
+RestoreHeard limit input (Some h) e old new = NothingHeard e old new

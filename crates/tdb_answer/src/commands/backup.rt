@@ -9,25 +9,27 @@ ghost use Rattle.tdb_space.specs.Pairs.{order_of};
 ghost use Rattle.tdb_backup.specs.Building.{HoldsPairs};
 ghost use Rattle.tdb_answer.specs.Commands.Create.{new_file_of};
 ghost use Rattle.tdb_open.specs.declared.limits.TheConstants.{LONGEST_FILE};
+ghost use Rattle.tdb_backup.specs.declared.refusal.BackupRefusal.TheVariants.{Copy};
 ghost use Rattle.tdb_backup.specs.declared.refusal.CopyRefusal.TheVariants.{Read as ReadFails, Write as WriteFails};
 ghost use Rattle.tdb_answer.specs.declared.ending.Ending.TheVariants.{Replied};
 ghost use Rattle.tdb_answer.specs.declared.ending.Reply.TheVariants.{Copied};
 ghost use Rattle.tdb_cmdline.specs.CopyNames.{copy_name, new_name, IsNameOf, IsNameAmong, BackupFits};
-ghost use Rattle.tdb_answer.specs.Commands.Backup.{copy_ending, HasKeys, IsCopyOf, IsNotCopied, of_copy, IsLeftOf, IsUntakenNew, CopyMade, DiskCopied, FileCopied, BackedUpOne, BackedUp, EndsBackup, CountedBoth};
+ghost use Rattle.tdb_answer.specs.Commands.Backup.{copy_ending, copy_growths, CopyingHeard, HasKeys, IsCopyOf, IsNotBackedUp, RefusalHeard, of_backup, of_copy, IsLeftOf, IsUntakenNew, CopyMade, DiskCopied, FileCopied, BackedUpOne, BackedUp, EndsBackup, CountedBoth};
 ghost use Rattle.tdb_answer.specs.Commands.Check.{keys_in};
 ghost use Rattle.tdb_open.specs.Creating.{IsNewFile};
 ghost use Rattle.tdb_answer.specs.Ending.{CountedBy};
-ghost use Rattle.tdb_answer.specs.Heard.{FileHeard, ToldFor, OpenHeard, BackupHeard};
+ghost use Rattle.tdb_answer.specs.Heard.{FileHeard, CopiedHeard, BackupHeard};
+ghost use Rattle.tdb_log.specs.Logs.{ToldAll};
 ghost use Rattle.tdb_open.specs.Notices.{OpeningHeard};
 ghost use Rattle.tdb_open.specs.Opening.{opened_bytes, IsCheckedOn};
 
 use crate::ending::{Ending, Reply};
 use std::alloc::Global;
-use tdb_backup::{CopyRefusal, copy_pairs};
+use tdb_backup::{BackupRefusal, CopyRefusal, copy_pairs};
 use tdb_cmdline::Text;
 use tdb_disk::{Disk, Files, Take};
 use tdb_log::Logs;
-use tdb_open::{LONGEST_FILE, NewForm, Opened, make};
+use tdb_open::{Halt, LONGEST_FILE, NewForm, Opened, make};
 use tdb_space::Direct;
 
 impl From<CopyRefusal> for Ending {
@@ -43,43 +45,61 @@ impl From<CopyRefusal> for Ending {
     }
 }
 
-/// Adds all pairs of an opened file on a disk to a new file of its form on another.
-fn add_all<D: Disk>(
+impl From<BackupRefusal> for Ending {
+    ghost from_gives = { λ refusal ending. ending ≡ of_backup refusal };
+
+    fn from(refusal: BackupRefusal) -> Self {
+        match refusal {
+            BackupRefusal::Copy(refusal) => Ending::from(refusal),
+            BackupRefusal::Log(refusal) => Ending::from(Halt::from(refusal)),
+        }
+    }
+}
+
+/// Adds all pairs of an opened file on a disk to a new file of its form on another, and tells the last log each growth
+/// of that.
+fn add_all<D: Disk, L: Logs>(
     alloc: Global,
     from: &mut D,
     opened: &Opened,
     to: &mut D,
-) -> Result<(), CopyRefusal>
+    logs: &mut L,
+) -> Result<(), BackupRefusal>
     requires opened { IsTrue D.tells → IsCheckedOn (seen (D.history from.old)) opened.now }
     requires short { IsTrue D.tells → length (seen (D.history from.old)) < 2 ^ 32 }
     requires new { IsTrue D.tells → IsNewFile opened.now.header.hash_size opened.now.header.order opened.now.header.hash (seen (D.history to.old)) }
     ensures copied { OnOk result (IsTrue D.tells → let img = seen (D.history from.old) in HoldsPairs LONGEST_FILE (new_file_of (form_of img)) (form_of img) (seen (D.history to.new)) (order_of (form_of img) img)) }
-    ensures refused { IfErr result (λ e. IsTrue D.tells → IsNotCopied (seen (D.history from.old)) e) }
+    ensures refused { IfErr result (λ e. IsTrue D.tells → IsNotBackedUp (seen (D.history from.old)) e) }
+    ensures told { OnOk result (IsTrue D.tells → ToldAll (copy_growths (seen (D.history from.old))) (L.logs logs.old) (L.logs logs.new)) }
+    ensures heard { IfErr result (λ e. IsTrue D.tells → RefusalHeard (seen (D.history from.old)) (L.logs logs.old) (L.logs logs.new) e) }
     ensures kept { D.history from.new ≡ D.history from.old }
-    ensures read_cause { HasCauseOf ReadFails (D.faults from.old) (D.faults from.new) result }
-    ensures write_cause { HasCauseOf WriteFails (D.faults to.old) (D.faults to.new) result }
+    ensures read_cause { HasCauseOf (Copy ReadFails) (D.faults from.old) (D.faults from.new) result }
+    ensures write_cause { HasCauseOf (Copy WriteFails) (D.faults to.old) (D.faults to.new) result }
 {
     let mut source = Direct::new(from, &opened.header);
     let mut copy = Direct::new(to, &opened.header);
-    copy_pairs(alloc, &mut source, &mut copy, LONGEST_FILE)
+    copy_pairs(alloc, &mut source, &mut copy, LONGEST_FILE, logs)
 }
 
 /// Makes an empty disk a copy of an opened file on another one: a new file of its form, to which all its pairs are
-/// added. It is synced.
-fn copy_file<D: Disk>(
+/// added, and of which the last log is told each growth. It is synced.
+fn copy_file<D: Disk, L: Logs>(
     alloc: Global,
     from: &mut D,
     opened: &Opened,
     to: &mut D,
-) -> Result<(), CopyRefusal>
+    logs: &mut L,
+) -> Result<(), BackupRefusal>
     requires opened { IsTrue D.tells → IsCheckedOn (seen (D.history from.old)) opened.now }
     requires short { IsTrue D.tells → length (seen (D.history from.old)) < 2 ^ 32 }
     requires empty { D.size to.old ≡ 0 }
     ensures copied { OnOk result (IsTrue D.tells → IsCopyOf (seen (D.history from.old)) (D.history to.new)) }
-    ensures refused { IfErr result (λ e. IsTrue D.tells → IsNotCopied (seen (D.history from.old)) e) }
+    ensures refused { IfErr result (λ e. IsTrue D.tells → IsNotBackedUp (seen (D.history from.old)) e) }
+    ensures told { OnOk result (IsTrue D.tells → ToldAll (copy_growths (seen (D.history from.old))) (L.logs logs.old) (L.logs logs.new)) }
+    ensures heard { IfErr result (λ e. IsTrue D.tells → RefusalHeard (seen (D.history from.old)) (L.logs logs.old) (L.logs logs.new) e) }
     ensures kept { D.history from.new ≡ D.history from.old }
-    ensures read_cause { HasCauseOf ReadFails (D.faults from.old) (D.faults from.new) result }
-    ensures write_cause { HasCauseOf WriteFails (D.faults to.old) (D.faults to.new) result }
+    ensures read_cause { HasCauseOf (Copy ReadFails) (D.faults from.old) (D.faults from.new) result }
+    ensures write_cause { HasCauseOf (Copy WriteFails) (D.faults to.old) (D.faults to.new) result }
 {
     let form = NewForm {
         size: opened.header.hash_size,
@@ -87,12 +107,12 @@ fn copy_file<D: Disk>(
         order: opened.header.order,
     };
     let Ok(()) = make(to, form) else {
-        return Err(CopyRefusal::Write);
+        return Err(BackupRefusal::Copy(CopyRefusal::Write));
     };
-    add_all(alloc, from, opened, to)?;
+    add_all(alloc, from, opened, to, logs)?;
     match to.sync() {
         Ok(()) => Ok(()),
-        Err(_) => Err(CopyRefusal::Write),
+        Err(_) => Err(BackupRefusal::Copy(CopyRefusal::Write)),
     }
 }
 
@@ -119,14 +139,15 @@ pub(crate) fn take_anew<F: Files>(alloc: Global, name: &str, files: &mut F) -> R
     }
 }
 
-/// Makes a new file of this name a copy of an opened one on a disk. Where not all pairs come into it and no call
-/// failed, there is none.
-fn copy_to<F: Files>(
+/// Makes a new file of this name a copy of an opened one on a disk. Where not all pairs come into it, or a log failed,
+/// and no call did, there is none.
+fn copy_to<F: Files, L: Logs>(
     alloc: Global,
     from: &mut F::D,
     opened: &Opened,
     name: &str,
     files: &mut F,
+    logs: &mut L,
 ) -> Ending
     requires opened { IsTrue F.D.tells → IsCheckedOn (seen (F.D.history from.old)) opened.now }
     requires short { IsTrue F.D.tells → length (seen (F.D.history from.old)) < 2 ^ 32 }
@@ -137,16 +158,17 @@ fn copy_to<F: Files>(
     ensures counted { CountedBoth (F.D.faults from.old) (F.D.faults from.new) (F.faults files.old) (F.faults files.new) result }
     ensures others { SameBut name.now (F.held files.old) (F.held files.new) }
     ensures taken { (other : List ℕ) → F.is_taken files.new other ≡ F.is_taken files.old other }
+    ensures heard { IsTrue F.D.tells → CopyingHeard (seen (F.D.history from.old)) result (L.logs logs.old) (L.logs logs.new) }
 {
     let mut to = match take_anew(alloc, name, files) {
         Ok(disk) => disk,
         Err(ending) => return ending,
     };
-    let copied = copy_file(alloc, from, opened, &mut to);
+    let copied = copy_file(alloc, from, opened, &mut to, logs);
     files.give(name, to);
     match copied {
         Ok(()) => Ending::Replied(Reply::Copied),
-        Err(CopyRefusal::Read | CopyRefusal::Write) => Ending::DeviceFault,
+        Err(BackupRefusal::Copy(CopyRefusal::Read | CopyRefusal::Write)) => Ending::DeviceFault,
         Err(refusal) => match files.remove(name) {
             Ok(()) => Ending::from(refusal),
             Err(_) => Ending::DeviceFault,
@@ -170,13 +192,13 @@ fn copy_disk<F: Files, L: Logs>(
     ensures counted { CountedBoth (F.D.faults from.old) (F.D.faults from.new) (F.faults files.old) (F.faults files.new) (copy_ending result) }
     ensures others { SameBut name.now (F.held files.old) (F.held files.new) }
     ensures taken { (other : List ℕ) → F.is_taken files.new other ≡ F.is_taken files.old other }
-    ensures heard { IsTrue F.D.tells → FileHeard (opened_bytes (seen (F.D.history from.old))) (OpeningHeard (seen (F.D.history from.old))) (copy_ending result) (ToldFor (copy_ending result) []) (L.logs logs.old) (L.logs logs.new) }
+    ensures heard { IsTrue F.D.tells → FileHeard (opened_bytes (seen (F.D.history from.old))) (OpeningHeard (seen (F.D.history from.old))) (copy_ending result) (CopyingHeard (opened_bytes (seen (F.D.history from.old))) (copy_ending result)) (L.logs logs.old) (L.logs logs.new) }
 {
     let opened = match Opened::open(alloc, from, logs) {
         Ok(opened) => opened,
         Err(halt) => return Err(Ending::from(halt)),
     };
-    let ending = copy_to(alloc, from, &opened, name, files);
+    let ending = copy_to(alloc, from, &opened, name, files, logs);
     if ending.is_copied() {
         Ok(opened.report.live)
     } else {
@@ -201,7 +223,7 @@ fn copy_opened<F: Files, L: Logs>(
     ensures counted { CountedBy (F.faults files.old) (F.faults files.new) (copy_ending result) }
     ensures others { (other : List ℕ) → other ≢ file.now → other ≢ name.now → F.held files.new other ≡ F.held files.old other }
     ensures given_back { (other : List ℕ) → F.is_taken files.new other ≡ false }
-    ensures heard { IsTrue F.D.tells → OpenHeard (F.held files.old file.now) (copy_ending result) (L.logs logs.old) (L.logs logs.new) }
+    ensures heard { IsTrue F.D.tells → CopiedHeard (F.held files.old file.now) (copy_ending result) (L.logs logs.old) (L.logs logs.new) }
 {
     let mut disk = match files.take(alloc, file, Take::Existing) {
         Ok(disk) => disk,
@@ -233,7 +255,7 @@ pub(crate) fn back_up_as<F: Files, L: Logs>(
     ensures counted { CountedBy (F.faults files.old) (F.faults files.new) (copy_ending result) }
     ensures others { (other : List ℕ) → other ≢ file.now → other ≢ copy.now → other ≢ new.now → F.held files.new other ≡ F.held files.old other }
     ensures given_back { (other : List ℕ) → F.is_taken files.new other ≡ false }
-    ensures heard { IsTrue F.D.tells → OpenHeard (F.held files.old file.now) (copy_ending result) (L.logs logs.old) (L.logs logs.new) }
+    ensures heard { IsTrue F.D.tells → CopiedHeard (F.held files.old file.now) (copy_ending result) (L.logs logs.old) (L.logs logs.new) }
 {
     let keys = match copy_opened(alloc, file, new, files, logs) {
         Ok(keys) => keys,
@@ -260,7 +282,7 @@ fn back_up_file<F: Files, L: Logs>(
     ensures counted { CountedBy (F.faults files.old) (F.faults files.new) result }
     ensures others { (other : List ℕ) → (IsNameOf false suffix.now file.now other → ⊥) → F.held files.new other ≡ F.held files.old other }
     ensures given_back { (other : List ℕ) → F.is_taken files.new other ≡ false }
-    ensures heard { IsTrue F.D.tells → OpenHeard (F.held files.old file.now) result (L.logs logs.old) (L.logs logs.new) }
+    ensures heard { IsTrue F.D.tells → CopiedHeard (F.held files.old file.now) result (L.logs logs.old) (L.logs logs.new) }
 {
     let Ok(copy) = Text::joined(alloc, file, suffix) else {
         return Ending::NoMemory;

@@ -10,7 +10,7 @@ ghost use Rattle.tdb_answer.specs.Commands.Backup.{copy_ending, HasKeys, BackedU
 ghost use Rattle.tdb_answer.specs.Commands.Restore.{of_input};
 ghost use Rattle.tdb_answer.specs.Commands.Verify as V;
 ghost use Rattle.tdb_answer.specs.Ending.{CountedBy};
-ghost use Rattle.tdb_answer.specs.Heard.{OpenHeard, CountHeard, VerifyHeard, count_ending};
+ghost use Rattle.tdb_answer.specs.Heard.{OpenHeard, CopiedHeard, CountHeard, VerifyHeard, count_ending};
 ghost use Rattle.tdb_answer.specs.Looks.{ending_of, Began};
 
 use crate::commands::backup::back_up_as;
@@ -154,7 +154,7 @@ fn restore_file<F: Files, L: Logs>(
     ensures counted { CountedBy (F.faults files.old) (F.faults files.new) (copy_ending result) }
     ensures others { (other : List ℕ) → (IsNameOf true suffix.now file.now other → ⊥) → F.held files.new other ≡ F.held files.old other }
     ensures given_back { (other : List ℕ) → F.is_taken files.new other ≡ false }
-    ensures heard { IsTrue F.D.tells → OpenHeard (F.held files.old (copy_name suffix.now file.now)) (copy_ending result) (L.logs logs.old) (L.logs logs.new) }
+    ensures heard { IsTrue F.D.tells → CopiedHeard (F.held files.old (copy_name suffix.now file.now)) (copy_ending result) (L.logs logs.old) (L.logs logs.new) }
 {
     let Ok(copy) = Text::joined(alloc, file, suffix) else {
         return Err(Ending::NoMemory);

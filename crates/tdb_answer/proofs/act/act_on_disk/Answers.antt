@@ -5,7 +5,8 @@ use Rattle.tdb_answer.specs.Acts.{OpenedAndActed}
 use Rattle.tdb_open.specs.Opening.{opened_bytes, of_fault}
 use Rattle.tdb_open.specs.Notices.{BelowHeard}
 use Rattle.tdb_answer.specs.Ending.{of_halt}
-use Rattle.tdb_answer.specs.Heard.{ActedHeard, ToldFor, acted_ending, growth}
+use Rattle.tdb_log.specs.Logs.{growth}
+use Rattle.tdb_answer.specs.Heard.{ActedHeard, ToldFor, acted_ending}
 use Rattle.tdb_answer.proofs.Acting.{halted, replied, faulted}
 use Rattle.tdb_answer.proofs.BackingUp.{opened_short}
 use Rattle.tdb_answer.proofs.Hearing.{halted_heard, faulted_heard, replied_heard}

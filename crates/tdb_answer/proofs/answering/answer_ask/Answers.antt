@@ -11,6 +11,7 @@ use Rattle.tdb_answer.specs.Left.{TaskLeaves, SameElse}
 use Rattle.tdb_cmdline.specs.CopyNames.{temporary_name}
 use Rattle.tdb_answer.specs.Commands.Backup.{BackupCause}
 use Rattle.tdb_answer.specs.Commands.Repack.{RepackLeaves}
+use Rattle.tdb_answer.specs.Commands.Restore.{RestoreHeard}
 use Rattle.tdb_answer.specs.Commands.Convert.{ConvertLeaves, converted_line}
 use Rattle.tdb_answer.specs.Commands.Mend.{MendLeaves, MendText, StaysSynced}
 use Rattle.tdb_answer.specs.Commands.Merge.{MergeLeaves}
@@ -316,23 +317,28 @@ returns-in-Create-clause-told g c told =
     let held = g.F.Files.held c.args.files.now in
     let now = g.F.Files.held c.create_file-creation.new.files in
     let logs = g.L.Logs.logs c.args.logs.now in
-    subst (λ t. TaskHeard t (string_bytes c.args.ask.now.file) held now c.made.result logs logs) (sym c.in-Create.is)
+    let input = input_by g.S.Source.tells (g.S.Source.left c.args.input.now) (g.S.Source.faults c.args.input.now) (g.S.Source.faults c.args.input.now) in
+    subst (λ t. TaskHeard input t (string_bytes c.args.ask.now.file) held now c.made.result logs logs) (sym c.in-Create.is)
     (refl, made_unlogged c.as_str-name.result.now c.create_file-creation.result c.made.result c.made.ensures)
 
 pub returns-in-Restore-clause-told : goal.returns-in-Restore-clause-told
 returns-in-Restore-clause-told g c told =
     let held = g.F.Files.held c.args.files.now in
     let now = g.F.Files.held c.restore_file.new.files in
+    let input = input_by g.S.Source.tells (g.S.Source.left c.args.input.now) (g.S.Source.faults c.args.input.now) (g.S.Source.faults c.restore_file.new.input) in
+    let e = c.restore_file.result in
     let logs = g.L.Logs.logs c.args.logs.now in
-    subst (λ t. TaskHeard t (string_bytes c.args.ask.now.file) held now c.restore_file.result logs logs) (sym c.in-Restore.is)
-    (refl, c.restore_file.ensures.unlogged)
+    let later = g.L.Logs.logs c.restore_file.new.logs in
+    subst (λ t. TaskHeard input t (string_bytes c.args.ask.now.file) held now e logs later) (sym c.in-Restore.is)
+    (subst (λ n. RestoreHeard c.in-Restore.limit input (held n) e logs later) c.as_str-name.ensures.value (c.restore_file.ensures.told told))
 
 pub returns-in-Rescue-clause-told : goal.returns-in-Rescue-clause-told
 returns-in-Rescue-clause-told g c told =
     let held = g.F.Files.held c.args.files.now in
     let now = g.F.Files.held c.rescue_on_file.new.files in
     let logs = g.L.Logs.logs c.args.logs.now in
-    subst (λ t. TaskHeard t (string_bytes c.args.ask.now.file) held now (ending_of c.rescue_on_file.result) logs logs) (sym c.in-Rescue.is)
+    let input = input_by g.S.Source.tells (g.S.Source.left c.args.input.now) (g.S.Source.faults c.args.input.now) (g.S.Source.faults c.args.input.now) in
+    subst (λ t. TaskHeard input t (string_bytes c.args.ask.now.file) held now (ending_of c.rescue_on_file.result) logs logs) (sym c.in-Rescue.is)
     (refl, c.rescue_on_file.ensures.unlogged told)
 
 pub returns-in-Mend-clause-told : goal.returns-in-Mend-clause-told
@@ -340,7 +346,8 @@ returns-in-Mend-clause-told g c told =
     let held = g.F.Files.held c.args.files.now in
     let now = g.F.Files.held c.mend.new.files in
     let logs = g.L.Logs.logs c.args.logs.now in
-    subst (λ t. TaskHeard t (string_bytes c.args.ask.now.file) held now (ending_of c.mend.result) logs logs) (sym c.in-Mend.is)
+    let input = input_by g.S.Source.tells (g.S.Source.left c.args.input.now) (g.S.Source.faults c.args.input.now) (g.S.Source.faults c.args.input.now) in
+    subst (λ t. TaskHeard input t (string_bytes c.args.ask.now.file) held now (ending_of c.mend.result) logs logs) (sym c.in-Mend.is)
     (refl, c.mend.ensures.unlogged)
 
 -- and of files that were verified
@@ -351,7 +358,8 @@ returns-in-Verify-clause-told g c told =
     let e = ending_of c.verify.result in
     let logs = g.L.Logs.logs c.args.logs.now in
     let later = g.L.Logs.logs c.verify.new.logs in
-    subst (λ t. TaskHeard t (string_bytes c.args.ask.now.file) held now e logs later) (sym c.in-Verify.is)
+    let input = input_by g.S.Source.tells (g.S.Source.left c.args.input.now) (g.S.Source.faults c.args.input.now) (g.S.Source.faults c.args.input.now) in
+    subst (λ t. TaskHeard input t (string_bytes c.args.ask.now.file) held now e logs later) (sym c.in-Verify.is)
     (subst (λ (q : List ℕ × (List ℕ × List (List ℕ))). VerifyHeard q.0 (q.1.0 ∷ q.1.1) held e logs later) (λ j. (c.as_str-in-Verify.ensures j, (c.as_str-name.ensures.value j, c.as_slice-in-Verify.ensures j))) (c.verify.ensures.heard told))
 
 -- of a file of whose pairs another one was to be made
@@ -362,7 +370,8 @@ returns-in-Convert-clause-told g c told =
     let e = ending_of c.convert.result in
     let logs = g.L.Logs.logs c.args.logs.now in
     let later = g.L.Logs.logs c.convert.new.logs in
-    subst (λ t. TaskHeard t (string_bytes c.args.ask.now.file) held now e logs later) (sym c.in-Convert.is)
+    let input = input_by g.S.Source.tells (g.S.Source.left c.args.input.now) (g.S.Source.faults c.args.input.now) (g.S.Source.faults c.args.input.now) in
+    subst (λ t. TaskHeard input t (string_bytes c.args.ask.now.file) held now e logs later) (sym c.in-Convert.is)
     (subst (λ n. ConvertHeard c.in-Convert.made.limit (held n) e logs later) c.as_str-name.ensures.value (c.convert.ensures.heard told))
 
 -- of a file whose pairs were to be stored into another one
@@ -373,7 +382,8 @@ returns-in-Merge-clause-told g c told =
     let e = c.merge_file.result in
     let logs = g.L.Logs.logs c.args.logs.now in
     let later = g.L.Logs.logs c.merge_file.new.logs in
-    subst (λ t. TaskHeard t (string_bytes c.args.ask.now.file) held now e logs later) (sym c.in-Merge.is)
+    let input = input_by g.S.Source.tells (g.S.Source.left c.args.input.now) (g.S.Source.faults c.args.input.now) (g.S.Source.faults c.args.input.now) in
+    subst (λ t. TaskHeard input t (string_bytes c.args.ask.now.file) held now e logs later) (sym c.in-Merge.is)
     (subst (λ n. MergeHeard c.in-Merge.limit (held n) e logs later) c.as_str-name.ensures.value (c.merge_file.ensures.heard told))
 
 -- and of one whose key was to be moved into another one
@@ -384,7 +394,8 @@ returns-in-Move-clause-told g c told =
     let e = c.move_file.result in
     let logs = g.L.Logs.logs c.args.logs.now in
     let later = g.L.Logs.logs c.move_file.new.logs in
-    subst (λ t. TaskHeard t (string_bytes c.args.ask.now.file) held now e logs later) (sym c.in-Move.is)
+    let input = input_by g.S.Source.tells (g.S.Source.left c.args.input.now) (g.S.Source.faults c.args.input.now) (g.S.Source.faults c.args.input.now) in
+    subst (λ t. TaskHeard input t (string_bytes c.args.ask.now.file) held now e logs later) (sym c.in-Move.is)
     (subst (λ n. MoveHeard c.in-Move.limit (held n) e logs later) c.as_str-name.ensures.value (c.move_file.ensures.heard told))
 
 -- and of generated commands
@@ -395,7 +406,8 @@ returns-in-Generate-clause-told g c told =
     let e = c.generate_file.result in
     let logs = g.L.Logs.logs c.args.logs.now in
     let later = g.L.Logs.logs c.generate_file.new.logs in
-    subst (λ t. TaskHeard t (string_bytes c.args.ask.now.file) held now e logs later) (sym c.in-Generate.is)
+    let input = input_by g.S.Source.tells (g.S.Source.left c.args.input.now) (g.S.Source.faults c.args.input.now) (g.S.Source.faults c.args.input.now) in
+    subst (λ t. TaskHeard input t (string_bytes c.args.ask.now.file) held now e logs later) (sym c.in-Generate.is)
     (subst (λ n. GenHeard c.in-Generate.commands c.in-Generate.seed (now n) e logs later) c.as_str-name.ensures.value (c.generate_file.ensures.told told))
 
 -- what stops leave of a file of turns

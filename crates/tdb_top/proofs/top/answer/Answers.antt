@@ -105,13 +105,17 @@ returns-in-Err-clause-unread g c unread = (refl, refl)
 -- what logs heard
 pub returns-in-Ok-Some-clause-told : goal.returns-in-Ok-Some-clause-told
 returns-in-Ok-Some-clause-told g c told =
-    subst (λ a. AskHeard a (g.F.Files.held c.args.files.now) (g.F.Files.held c.answer_ask.new.files) (ending_of c.answer_ask.result) (g.L.Logs.logs c.args.logs.now) (g.L.Logs.logs c.answer_ask.new.logs))
+    let input = input_by g.S.Source.tells (g.S.Source.left c.args.input.now) (g.S.Source.faults c.args.input.now) (g.S.Source.faults c.answer_ask.new.input) in
+    subst (λ a. AskHeard input a (g.F.Files.held c.args.files.now) (g.F.Files.held c.answer_ask.new.files) (ending_of c.answer_ask.result) (g.L.Logs.logs c.args.logs.now) (g.L.Logs.logs c.answer_ask.new.logs))
     (rw c.in-Ok-Some.field-0-is at c.in-Ok-Some.ensures.read) (c.answer_ask.ensures.told told)
 
 pub returns-in-Ok-None-clause-told : goal.returns-in-Ok-None-clause-told
 returns-in-Ok-None-clause-told g c told =
+    let input = input_by g.S.Source.tells (g.S.Source.left c.args.input.now) (g.S.Source.faults c.args.input.now) (g.S.Source.faults c.args.input.now) in
     let logs = g.L.Logs.logs c.args.logs.now in
-    subst (λ a. AskHeard a (g.F.Files.held c.args.files.now) (g.F.Files.held c.args.files.now) Usage logs logs) (rw c.in-Ok-None.field-0-is at c.in-Ok-None.ensures.read) (refl, λ is. cc)
+    subst (λ a. AskHeard input a (g.F.Files.held c.args.files.now) (g.F.Files.held c.args.files.now) Usage logs logs) (rw c.in-Ok-None.field-0-is at c.in-Ok-None.ensures.read) (refl, λ is. cc)
 
 pub returns-in-Err-clause-told : goal.returns-in-Err-clause-told
-returns-in-Err-clause-told g c told = ask_unheard (ask_of (map string_bytes c.args.words.now)) (g.F.Files.held c.args.files.now) (g.L.Logs.logs c.args.logs.now)
+returns-in-Err-clause-told g c told =
+    let input = input_by g.S.Source.tells (g.S.Source.left c.args.input.now) (g.S.Source.faults c.args.input.now) (g.S.Source.faults c.args.input.now) in
+    ask_unheard input (ask_of (map string_bytes c.args.words.now)) (g.F.Files.held c.args.files.now) (g.L.Logs.logs c.args.logs.now)

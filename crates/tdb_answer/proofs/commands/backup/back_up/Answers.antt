@@ -5,7 +5,7 @@ use Rattle.tdb_answer.specs.declared.ending.Reply.TheVariants.{Copied}
 use Rattle.tdb_cmdline.specs.CopyNames.{copy_name, new_name, IsNameOf, IsNameAmong, NamesDiffer}
 use Rattle.tdb_answer.specs.Commands.Backup.{BackedUpOne}
 use Rattle.tdb_cmdline.proofs.Items.{rest_of}
-use Rattle.tdb_answer.specs.Heard.{OpenHeard}
+use Rattle.tdb_answer.specs.Heard.{CopiedHeard}
 use Rattle.tdb_answer.proofs.Copies.{Carries, all_done, went_on, ended_there, carries_on, carries_end}
 use Rattle.tdb_answer.proofs.Hearing.{BackupCarries, backup_on, backup_end}
 use Rattle.tdb_answer.proofs.commands.backup.back_up.Goals as goal
@@ -38,7 +38,7 @@ loop-name-init g c =
       differ = c.requires.fits.differ.1;
       within = λ other among. inr among;
       stays = λ other among. call.ensures.others other (λ own. c.requires.fits.differ.0 other own among);
-      hears = λ told e after rest. inr (g.L.Logs.logs call.new.logs, subst (λ x. OpenHeard (old file) x (g.L.Logs.logs c.args.logs.now) (g.L.Logs.logs call.new.logs)) is (call.ensures.heard told), rest);
+      hears = λ told e after rest. inr (g.L.Logs.logs call.new.logs, subst (λ x. CopiedHeard (old file) x (g.L.Logs.logs c.args.logs.now) (g.L.Logs.logs call.new.logs)) is (call.ensures.heard told), rest);
       carries = λ told now after e rest later.
           went_on suffix file names c.requires.fits.differ old mid before between call.ensures.others sound
           (subst (BackedUpOne file (copy_name suffix file) (new_name suffix file) old mid before between) is (call.ensures.done told)) now after e rest later;
@@ -95,8 +95,8 @@ loop-name-preserved g c =
       stays = λ other among. others other (λ own. differ.0 other own among) ∙ stays other (inr among);
       hears = λ told.
           backup_on all (held c.args.files.now) (logs c.args.logs.now) x rest (logs c.loop-name.logs) (subst (λ l. BackupCarries all (held c.args.files.now) (logs c.args.logs.now) l (logs c.loop-name.logs)) eq (c.loop-name.invariant.hears told)) (logs call.new.logs)
-          (subst (λ o. OpenHeard o (Replied Copied) (logs c.loop-name.logs) (logs call.new.logs)) (ap (held c.loop-name.files) value ∙ stays x (inl (inl refl)))
-          (subst (λ e. OpenHeard (held c.loop-name.files c.as_str.result.now) e (logs c.loop-name.logs) (logs call.new.logs)) is (call.ensures.heard told)));
+          (subst (λ o. CopiedHeard o (Replied Copied) (logs c.loop-name.logs) (logs call.new.logs)) (ap (held c.loop-name.files) value ∙ stays x (inl (inl refl)))
+          (subst (λ e. CopiedHeard (held c.loop-name.files c.as_str.result.now) e (logs c.loop-name.logs) (logs call.new.logs)) is (call.ensures.heard told)));
       carries = λ told.
           carries_on suffix all (held c.args.files.now) (faults c.args.files.now) x rest (held c.loop-name.files) (held call.new.files) (faults c.loop-name.files) (faults call.new.files)
           differ
@@ -139,7 +139,7 @@ returns-then-not-is_copied-2-clause-heard g c told =
     let stays : (name : List ℕ) → IsNameAmong false suffix (x ∷ rest) name → held c.loop-name.files name ≡ held c.args.files.now name = subst (λ l. (name : List ℕ) → IsNameAmong false suffix l name → held c.loop-name.files name ≡ held c.args.files.now name) eq c.loop-name.invariant.stays in
     backup_end all (held c.args.files.now) (logs c.args.logs.now) x rest (logs c.loop-name.logs) (subst (λ l. BackupCarries all (held c.args.files.now) (logs c.args.logs.now) l (logs c.loop-name.logs)) eq (c.loop-name.invariant.hears told))
     call.result (logs call.new.logs) (c.is_copied-in-loop-name.ensures.other (search rules))
-    (subst (λ o. OpenHeard o call.result (logs c.loop-name.logs) (logs call.new.logs)) (ap (held c.loop-name.files) value ∙ stays x (inl (inl refl))) (call.ensures.heard told))
+    (subst (λ o. CopiedHeard o call.result (logs c.loop-name.logs) (logs call.new.logs)) (ap (held c.loop-name.files) value ∙ stays x (inl (inl refl))) (call.ensures.heard told))
 
 pub returns-clause-heard : goal.returns-clause-heard
 returns-clause-heard g c told =

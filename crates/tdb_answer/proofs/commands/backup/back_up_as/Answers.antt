@@ -1,9 +1,9 @@
-use Rattle.std.proofs.Common.{refl, sym}
+use Rattle.std.proofs.Common.{inl, inr, refl, sym}
 use Rattle.tdb_answer.specs.declared.ending.Ending.TheVariants.{Replied, DeviceFault}
 use Rattle.tdb_answer.specs.declared.ending.Reply.TheVariants.{Copied}
 use Rattle.tdb_answer.proofs.Acting.{rose_earlier}
 use Rattle.tdb_answer.proofs.BackingUp.{one_stopped, one_copied, one_unnamed}
-use Rattle.tdb_answer.proofs.Hearing.{opened_as}
+use Rattle.tdb_answer.proofs.Hearing.{copied_as}
 use Rattle.tdb_answer.proofs.commands.backup.back_up_as.Goals as goal
 
 -- the file wasn't copied
@@ -33,4 +33,4 @@ returns-in-Err-rename-clause-done g c told =
 
 pub returns-in-Err-rename-clause-heard : goal.returns-in-Err-rename-clause-heard
 returns-in-Err-rename-clause-heard g c told =
-    opened_as (g.F.Files.held c.args.files.now c.args.file.now) Copied DeviceFault (g.L.Logs.logs c.args.logs.now) (g.L.Logs.logs c.copy_opened.new.logs) (λ is. cc) (c.in-Ok.ensures.heard told)
+    copied_as (g.F.Files.held c.args.files.now c.args.file.now) DeviceFault (g.L.Logs.logs c.args.logs.now) (g.L.Logs.logs c.copy_opened.new.logs) (inr (inl refl)) (c.in-Ok.ensures.heard told)

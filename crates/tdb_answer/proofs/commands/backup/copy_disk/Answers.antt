@@ -2,12 +2,12 @@ use Rattle.std.proofs.Common.{◌≡◌, ◌<◌, ◌^◌, [], length, refl, rul
 use Rattle.tdb_disk.specs.History.{seen}
 use Rattle.tdb_answer.specs.declared.ending.Ending.TheVariants.{Replied}
 use Rattle.tdb_answer.specs.declared.ending.Reply.TheVariants.{Copied}
-use Rattle.tdb_answer.specs.Commands.Backup.{CopyMade}
+use Rattle.tdb_answer.specs.Commands.Backup.{CopyMade, CopyingHeard}
 use Rattle.tdb_answer.proofs.BackingUp.{opened_short, opened_copied, halted_copied, halted_known, halted_other}
 use Rattle.tdb_open.specs.Opening.{opened_bytes}
 use Rattle.tdb_open.specs.Notices.{OpeningHeard}
-use Rattle.tdb_answer.specs.Heard.{ToldFor}
-use Rattle.tdb_answer.proofs.Hearing.{opened_alone, halted_heard, copy_unlogged}
+use Rattle.tdb_answer.specs.Heard.{heard_more}
+use Rattle.tdb_answer.proofs.Hearing.{halted_heard}
 use Rattle.tdb_answer.proofs.commands.backup.copy_disk.Goals as goal
 
 -- what was opened is short enough
@@ -52,13 +52,20 @@ returns-in-Err-clause-known g c = halted_known c.in-Err.halt c.from.result c.fro
 -- what logs heard of it
 pub returns-then-is_copied-clause-heard : goal.returns-then-is_copied-clause-heard
 returns-then-is_copied-clause-heard g c told =
-    opened_alone (opened_bytes (seen (g.F.D.Disk.history c.args.from.now))) (OpeningHeard (seen (g.F.D.Disk.history c.args.from.now))) (Replied Copied) c.in-Ok.opened (g.L.Logs.logs c.args.logs.now) (g.L.Logs.logs c.open.new.logs) (c.in-Ok.ensures.opened told).counted (c.in-Ok.ensures.heard told) (λ is. cc)
+    let between = g.L.Logs.logs c.open.new.logs in
+    let later = g.L.Logs.logs c.copy_to-ending.new.logs in
+    let is : c.copy_to-ending.result ≡ Replied Copied = c.is_copied.ensures.copied (search rules) in
+    heard_more c.in-Ok.opened between (c.in-Ok.ensures.opened told).counted (c.in-Ok.ensures.heard told)
+    (subst (λ e. CopyingHeard (opened_bytes (seen (g.F.D.Disk.history c.args.from.now))) e between later) is
+    (subst (λ i. CopyingHeard i c.copy_to-ending.result between later) (c.in-Ok.ensures.reads told) (c.copy_to-ending.ensures.heard told)))
 
 pub returns-else-is_copied-clause-heard : goal.returns-else-is_copied-clause-heard
 returns-else-is_copied-clause-heard g c told =
-    opened_alone (opened_bytes (seen (g.F.D.Disk.history c.args.from.now))) (OpeningHeard (seen (g.F.D.Disk.history c.args.from.now))) c.copy_to-ending.result c.in-Ok.opened (g.L.Logs.logs c.args.logs.now) (g.L.Logs.logs c.open.new.logs) (c.in-Ok.ensures.opened told).counted (c.in-Ok.ensures.heard told)
-    (copy_unlogged (seen (g.F.D.Disk.history c.open.new.disk)) (g.F.Files.held c.args.files.now c.args.name.now) (g.F.Files.held c.copy_to-ending.new.files c.args.name.now) c.copy_to-ending.result (c.copy_to-ending.ensures.left told))
+    let between = g.L.Logs.logs c.open.new.logs in
+    heard_more c.in-Ok.opened between (c.in-Ok.ensures.opened told).counted (c.in-Ok.ensures.heard told)
+    (subst (λ i. CopyingHeard i c.copy_to-ending.result between (g.L.Logs.logs c.copy_to-ending.new.logs)) (c.in-Ok.ensures.reads told) (c.copy_to-ending.ensures.heard told))
 
 pub returns-in-Err-clause-heard : goal.returns-in-Err-clause-heard
 returns-in-Err-clause-heard g c told =
-    halted_heard (opened_bytes (seen (g.F.D.Disk.history c.args.from.now))) (OpeningHeard (seen (g.F.D.Disk.history c.args.from.now))) c.in-Err.halt c.from.result (ToldFor c.from.result []) (g.L.Logs.logs c.args.logs.now) (g.L.Logs.logs c.open.new.logs) (c.in-Err.ensures.heard told) c.from.ensures
+    halted_heard (opened_bytes (seen (g.F.D.Disk.history c.args.from.now))) (OpeningHeard (seen (g.F.D.Disk.history c.args.from.now))) c.in-Err.halt c.from.result (CopyingHeard (opened_bytes (seen (g.F.D.Disk.history c.args.from.now))) c.from.result)
+    (g.L.Logs.logs c.args.logs.now) (g.L.Logs.logs c.open.new.logs) (c.in-Err.ensures.heard told) c.from.ensures

@@ -4,8 +4,8 @@ use Rattle.tdb_disk.specs.History.{History, began}
 use Rattle.tdb_disk.specs.declared.files.Take.TheVariants.{Existing, New}
 use Rattle.tdb_answer.specs.Commands.Backup.{copy_ending, DiskCopied, file_taken}
 use Rattle.tdb_answer.proofs.BackingUp.{untaken_file, untaken_ends, untaken_other, untaken_counted, given_counted}
-use Rattle.tdb_answer.specs.Heard.{OpenHeard}
-use Rattle.tdb_answer.proofs.Hearing.{open_untaken}
+use Rattle.tdb_answer.specs.Heard.{CopiedHeard}
+use Rattle.tdb_answer.proofs.Hearing.{copied_untaken}
 use Rattle.tdb_answer.proofs.Held.{held_there}
 use Rattle.tdb_answer.proofs.commands.backup.copy_opened.Goals as goal
 use Rattle.tdb_answer.proofs.commands.backup.copy_opened.Goals.{After-give}
@@ -59,9 +59,9 @@ returns-in-Err-clause-counted g c =
 -- what logs heard of it
 pub returns-clause-heard : goal.returns-clause-heard
 returns-clause-heard g c told =
-    subst (λ o. OpenHeard o (copy_ending c.copy_disk-copied.result) (g.L.Logs.logs c.args.logs.now) (g.L.Logs.logs c.copy_disk-copied.new.logs)) (sym (there g ((goal.at.returns-clause-heard g c).After-give) told)) (c.copy_disk-copied.ensures.heard told)
+    subst (λ o. CopiedHeard o (copy_ending c.copy_disk-copied.result) (g.L.Logs.logs c.args.logs.now) (g.L.Logs.logs c.copy_disk-copied.new.logs)) (sym (there g ((goal.at.returns-clause-heard g c).After-give) told)) (c.copy_disk-copied.ensures.heard told)
 
 pub returns-in-Err-clause-heard : goal.returns-in-Err-clause-heard
 returns-in-Err-clause-heard g c told =
-    open_untaken c.args.file.now c.in-Err.refusal c.untaken.result (g.L.Logs.logs c.args.logs.now) (λ is. let new : Existing ≡ New = c.in-Err.ensures.there_how (ap Err is) in cc) c.untaken.ensures
+    copied_untaken c.args.file.now c.in-Err.refusal c.untaken.result (g.L.Logs.logs c.args.logs.now) (λ is. let new : Existing ≡ New = c.in-Err.ensures.there_how (ap Err is) in cc) c.untaken.ensures
     (g.F.Files.held c.args.files.now c.args.file.now) (λ is. ((c.in-Err.ensures.missing told).0 (ap Err is)).0)

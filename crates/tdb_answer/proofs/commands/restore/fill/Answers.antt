@@ -1,4 +1,4 @@
-use Rattle.tdb_answer.proofs.Restoring.{restored_synced}
+use Rattle.tdb_answer.proofs.Restoring.{restored_synced, told_but, untold_yet}
 use Rattle.std.proofs.lemmas.Result.{err_from_is_err_and}
 use Rattle.tdb_answer.proofs.commands.restore.fill.Goals as goal
 
@@ -17,3 +17,16 @@ returns-in_err-add_all-clause-refused g c =
 -- the file was made
 pub add_all-requires-clause-new : goal.add_all-requires-clause-new
 add_all-requires-clause-new g c told = (c.in-Ok.ensures.made told).file
+
+-- what logs heard of it
+pub returns-in_err-add_all-clause-heard : goal.returns-in_err-add_all-clause-heard
+returns-in_err-add_all-clause-heard g c =
+    let q = err_from_is_err_and c.from_residual.result c.from_residual.ensures.1 in
+    rw (q.1, q.2) (λ heard told. c.in_err-add_all.ensures.heard heard told)
+
+pub returns-in_default-clause-heard : goal.returns-in_default-clause-heard
+returns-in_default-clause-heard g c heard told = untold_yet c.args.limit (g.S.Source.left c.args.input.now) (g.L.Logs.logs c.args.logs.now)
+
+pub returns-in-Err-clause-heard : goal.returns-in-Err-clause-heard
+returns-in-Err-clause-heard g c heard told =
+    told_but c.args.limit (g.S.Source.left c.args.input.now) (g.L.Logs.logs c.args.logs.now) (g.L.Logs.logs c.add_all.new.logs) (c.in_ok-add_all.ensures.told heard told)

@@ -2,14 +2,20 @@ use Rattle.std.proofs.Common.{◌≡◌, ◌≤◌, true, false, Err, None, refl
 use Rattle.std.proofs.lemmas.Result.{IfErr-at_err}
 use Rattle.tdb_disk.specs.Count.{Rose}
 use Rattle.tdb_disk.specs.History.{seen}
+use Rattle.std.specs.Prelude.{IsTrue}
+use Rattle.tdb_backup.specs.Restoring.{TextHeard}
 use Rattle.tdb_backup.specs.declared.refusal.RestoreRefusal.TheVariants as R
 use Rattle.tdb_cmdline.specs.declared.ask.Task.TheVariants.{Restore}
+use Rattle.tdb_answer.specs.Commands.Create.{new_file_of}
+use Rattle.tdb_answer.specs.Commands.Restore.{new_form}
 use Rattle.tdb_answer.specs.Ending.{task_failed, CountedBy}
 use Rattle.tdb_answer.specs.Input.{Input, input_by}
+use Rattle.tdb_answer.specs.declared.ending.Ending.TheVariants.{Replied, DeviceFault}
+use Rattle.tdb_answer.specs.declared.ending.Reply.TheVariants.{Restored}
 use Rattle.tdb_answer.proofs.Acting.{rose_earlier}
 use Rattle.tdb_answer.proofs.Held.{same_or_other}
 use Rattle.tdb_answer.proofs.Looking.{files_counted}
-use Rattle.tdb_answer.proofs.Restoring.{none_held, untaken_new, whole_cause, refused_cause, refused_asked, refused_unlogged, removed_left, failed_left, refused_counted, failed_counted, refused_heard}
+use Rattle.tdb_answer.proofs.Restoring.{none_held, untaken_new, whole_cause, refused_cause, refused_asked, fresh_heard, untaken_heard, removed_left, failed_left, refused_counted, failed_counted, refused_heard}
 use Rattle.tdb_answer.proofs.commands.restore.restore_file.Goals as goal
 use Rattle.tdb_answer.proofs.commands.restore.restore_file.Goals.{After-give}
 
@@ -77,7 +83,8 @@ returns-in-Ok-remove g c =
       counted = counted;
       heard = refused_heard (g.S.Source.faults c.args.input.now) (g.S.Source.faults c.fill-filled.new.input) r e is v.failed v.refused;
       asked = refused_asked r e is;
-      unlogged = refused_unlogged r e is;
+      told = λ told. fresh_heard c.args.limit (heard_so g a) (g.F.Files.held c.args.files.now c.args.name.now) (fresh g a told) e (g.L.Logs.logs c.args.logs.now) (g.L.Logs.logs c.fill-filled.new.logs)
+          (λ heard. inr (r, inl is, c.in-Err-filled.ensures.heard heard told));
     }
 
 -- it couldn't be removed
@@ -97,5 +104,31 @@ returns-in-Err-remove g c =
       counted = failed_counted before given after later c.in-Err-remove.ensures.cause.never_falls c.in-Err-remove.ensures.cause.failed;
       heard = record { failed = λ is. cc; told = inr (inr refl) };
       asked = λ is. cc;
-      unlogged = λ is. cc;
+      told = λ told. fresh_heard c.args.limit (heard_so g a) (g.F.Files.held c.args.files.now c.args.name.now) (fresh g a told) DeviceFault (g.L.Logs.logs c.args.logs.now) (g.L.Logs.logs c.fill-filled.new.logs)
+          (λ heard. inr (c.in-Err-filled.refusal, inr refl, c.in-Err-filled.ensures.heard heard told));
     }
+
+-- what logs heard of it
+pub returns-in-Err-clause-told : goal.returns-in-Err-clause-told
+returns-in-Err-clause-told g c told =
+    untaken_heard c.args.limit (input_by g.S.Source.tells (g.S.Source.left c.args.input.now) (g.S.Source.faults c.args.input.now) (g.S.Source.faults c.args.input.now)) c.args.name.now (g.F.Files.held c.args.files.now c.args.name.now) (g.L.Logs.logs c.args.logs.now)
+    c.in-Err.refusal c.untaken.result (λ is. c.in-Err.ensures.missing_how (ap Err is) refl) (λ is. ((c.in-Err.ensures.there told).0 (ap Err is)).0) c.untaken.ensures
+
+pub returns-in-Ok-filled-clause-told : goal.returns-in-Ok-filled-clause-told
+returns-in-Ok-filled-clause-told g c told =
+    let a = (goal.at.returns-in-Ok-filled-clause-told g c).After-give in
+    fresh_heard c.args.limit (heard_so g a) (g.F.Files.held c.args.files.now c.args.name.now) (fresh g a told) (Replied Restored) (g.L.Logs.logs c.args.logs.now) (g.L.Logs.logs c.fill-filled.new.logs)
+    (λ heard. inl (refl, c.in-Ok-filled.ensures.told heard told))
+
+pub returns-in-Err-Io-clause-told : goal.returns-in-Err-Io-clause-told
+returns-in-Err-Io-clause-told g c told =
+    let a = (goal.at.returns-in-Err-Io-clause-told g c).After-give in
+    let logs = g.L.Logs.logs c.args.logs.now in
+    let later = g.L.Logs.logs c.fill-filled.new.logs in
+    fresh_heard c.args.limit (heard_so g a) (g.F.Files.held c.args.files.now c.args.name.now) (fresh g a told) DeviceFault logs later
+    (λ heard. inr (
+      _,
+      inr refl,
+      IfErr-at_err (λ e. IsTrue g.S.Source.tells → IsTrue g.F.D.Disk.tells → TextHeard c.args.limit new_form (new_file_of new_form) (g.S.Source.left c.args.input.now) logs later e)
+          c.in-Err-Io.is c.fill-filled.ensures.heard heard told,
+    ))

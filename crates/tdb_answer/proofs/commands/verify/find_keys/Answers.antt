@@ -1,11 +1,11 @@
-use Rattle.std.proofs.Common.{◌≡◌, Err, rules, inl, inr, sym, ◌∙◌, subst}
+use Rattle.std.proofs.Common.{◌≡◌, Err, rules, inl, inr, refl, sym, ◌∙◌, subst}
 use Rattle.tdb_answer.specs.declared.commands.verify.Unverified.TheVariants.{Ends}
 use Rattle.tdb_cmdline.specs.CopyNames.{copy_name, temporary_name}
 use Rattle.tdb_answer.proofs.Verifying.{copy_apart, temporary_apart, not_copied, opened_found, not_opened, faulty, faulty_kept, restoring_untold, restored_found, not_restored}
 use Rattle.tdb_answer.specs.declared.ending.Ending.TheVariants.{Replied}
 use Rattle.tdb_answer.specs.declared.ending.Reply.TheVariants.{Copied, Verified}
-use Rattle.tdb_answer.specs.Heard.{OpenHeard, CountHeard, count_ending}
-use Rattle.tdb_answer.proofs.Hearing.{opened_as, line_heard}
+use Rattle.tdb_answer.specs.Heard.{CopiedHeard, CountHeard, count_ending}
+use Rattle.tdb_answer.proofs.Hearing.{copied_as, opened_as, line_heard}
 use Rattle.tdb_answer.proofs.commands.verify.find_keys.Goals as goal
 use Rattle.tdb_answer.proofs.commands.verify.find_keys.Goals.{After-count_keys}
 
@@ -103,7 +103,7 @@ returns-in_err-keys-clause-heard g c told =
     let e = c.in_err-keys.field-0.0 in
     let is : c.from_residual-in_err-keys.result ≡ Err (Ends e) = search rules in
     subst (λ r. CountHeard (held file) (held (copy_name c.args.suffix.now file)) (count_ending r) logs later) (sym is)
-    (inr (c.in-Err.ending, between, sym c.tells_fault.ensures ∙ c.if-not-tells_fault.false, c.in-Err.ensures.heard told, subst (λ o. OpenHeard o e between later) (copy_same g a) (c.in_err-keys.ensures.heard told)))
+    (inr (c.in-Err.ending, between, sym c.tells_fault.ensures ∙ c.if-not-tells_fault.false, c.in-Err.ensures.heard told, subst (λ o. CopiedHeard o e between later) (copy_same g a) (c.in_err-keys.ensures.heard told)))
 
 pub returns-clause-heard : goal.returns-clause-heard
 returns-clause-heard g c told =
@@ -117,5 +117,5 @@ returns-clause-heard g c told =
       between,
       sym c.tells_fault.ensures ∙ c.if-not-tells_fault.false,
       c.in-Err.ensures.heard told,
-      opened_as (held (copy_name c.args.suffix.now file)) Copied (Replied Verified) between later (λ is. cc) (subst (λ o. OpenHeard o (Replied Copied) between later) (copy_same g a) (c.in_ok-keys.ensures.heard told)),
+      copied_as (held (copy_name c.args.suffix.now file)) (Replied Verified) between later (inl refl) (subst (λ o. CopiedHeard o (Replied Copied) between later) (copy_same g a) (c.in_ok-keys.ensures.heard told)),
     )
