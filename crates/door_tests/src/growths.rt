@@ -20,7 +20,12 @@ const BY_ONE: Notice = Notice::Grew { from: 696, to: 728 };
 
 const BY_ANOTHER: Notice = Notice::Grew { from: 728, to: 760 };
 
-pub(crate) static LOGGED: [(&'static str, Logged); 15] = [
+const TWO_KEYS: Notice = Notice::Checked {
+    live: 2,
+    dead_bytes: 0,
+};
+
+pub(crate) static LOGGED: [(&'static str, Logged); 16] = [
     (
         "a restore of a pair",
         Logged {
@@ -148,6 +153,27 @@ pub(crate) static LOGGED: [(&'static str, Logged); 15] = [
             failing: None,
             left: 1,
             told: &[ONE_KEY, FIRST_GROWTH, ONE_KEY, FIRST_GROWTH],
+        },
+    ),
+    (
+        "a session of two inserts, and a backup of its file, which grows as that did",
+        Logged {
+            files: &[("f.tdb", NEW)],
+            line: &[
+                (
+                    "tool f.tdb",
+                    "insert a 1\ninsert b 2\n",
+                    Nothing,
+                    0,
+                    "ok\nok\n",
+                ),
+                ("backup f.tdb", "", Nothing, 0, ""),
+            ],
+            stands: &[("f.tdb.bak", Left::Length(4096))],
+            logs: 1,
+            failing: None,
+            left: 1,
+            told: &[NOTHING_YET, FIRST_GROWTH, TWO_KEYS, FIRST_GROWTH],
         },
     ),
     (
