@@ -20,7 +20,7 @@ const FREED: Image = Image {
     ..ONE
 };
 
-pub(crate) static TABLES: [Table; 7] = [
+pub(crate) static TABLES: [Table; 8] = [
     Table {
         files: &[("f.tdb", ONE)],
         in_turn: 1,
@@ -38,6 +38,16 @@ pub(crate) static TABLES: [Table; 7] = [
             ("tool f.tdb storehex 61 31", "", Nothing, 0, "ok\n"),
         ],
         left: &[("f.tdb", Left::Bytes(ONE))],
+    },
+    // The empty key is filed in chain 31, by its hash.
+    Table {
+        files: &[("f.tdb", NEW)],
+        in_turn: 2,
+        lines: &[
+            ("tool f.tdb store \"\" x", "", Nothing, 0, "ok\n"),
+            ("tool f.tdb show \"\"", "", Nothing, 0, "data(1) = \"x\"\n"),
+        ],
+        left: &[("f.tdb", Left::Words(&[(296, 4064), (4080, 12345)]))],
     },
     Table {
         files: &[("f.tdb", STORED)],

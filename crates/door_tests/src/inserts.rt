@@ -58,7 +58,21 @@ const BIG_INSERTED: Image = Image {
     ..NEW_BIG
 };
 
-pub(crate) static TABLES: [Table; 7] = [
+/// The dump of a record with bytes that are escaped.
+const ESCAPED: &str = "{\nkey(5) = \"\\00\\22\\5C\\7F\\FF\"\ndata(1) = \"\\FF\"\n}\n";
+
+/// A text of two pairs, and how a dump has them: the chain of `a` comes before that of `b`.
+const LATER_FIRST: &str =
+    "{\nkey(1) = \"b\"\ndata(1) = \"2\"\n}\n{\nkey(1) = \"a\"\ndata(1) = \"1\"\n}\n";
+
+const BY_CHAINS: &str =
+    "{\nkey(1) = \"a\"\ndata(1) = \"1\"\n}\n{\nkey(1) = \"b\"\ndata(1) = \"2\"\n}\n";
+
+/// A text in which a key comes twice.
+const TWICE: &str =
+    "{\nkey(1) = \"a\"\ndata(1) = \"1\"\n}\n{\nkey(1) = \"a\"\ndata(1) = \"1\"\n}\n";
+
+pub(crate) static TABLES: [Table; 9] = [
     Table {
         files: &[("f.tdb", NEW)],
         in_turn: 19,
@@ -126,19 +140,11 @@ pub(crate) static TABLES: [Table; 7] = [
     },
     Table {
         files: &[],
-        in_turn: 11,
+        in_turn: 9,
         lines: &[
             ("restore f.tdb", DUMP, Nothing, 0, ""),
             ("dump f.tdb", "", Nothing, 0, DUMP),
             ("restore f.tdb", DUMP, Nothing, 9, "there f.tdb\n"),
-            (
-                "restore g.tdb",
-                "{\nkey(1) = \"\\0",
-                Nothing,
-                7,
-                "input malformed at 14\n",
-            ),
-            ("dump g.tdb", "", Nothing, 9, "missing g.tdb\n"),
             (
                 "restore --limit 696 h.tdb",
                 DUMP,
@@ -153,5 +159,50 @@ pub(crate) static TABLES: [Table; 7] = [
             ("restore --read-only i.tdb", DUMP, Nothing, 2, USAGE),
         ],
         left: &[],
+    },
+    // Bytes that are escaped come back from a dump.
+    Table {
+        files: &[("f.tdb", NEW)],
+        in_turn: 5,
+        lines: &[
+            (
+                "tool f.tdb store \\00\\22\\5C\\7F\\FF \\FF",
+                "",
+                Nothing,
+                0,
+                "ok\n",
+            ),
+            ("dump f.tdb", "", Nothing, 0, ESCAPED),
+            ("restore g.tdb", ESCAPED, Nothing, 0, ""),
+            ("dump g.tdb", "", Nothing, 0, ESCAPED),
+            (
+                "restore h.tdb",
+                "{\nkey(1) = \"\\0",
+                Nothing,
+                7,
+                "input malformed at 14\n",
+            ),
+        ],
+        left: &[("h.tdb", Left::Missing)],
+    },
+    Table {
+        files: &[],
+        in_turn: 4,
+        lines: &[
+            ("restore r.tdb", LATER_FIRST, Nothing, 0, ""),
+            ("dump r.tdb", "", Nothing, 0, BY_CHAINS),
+            ("restore r.tdb", DUMP, Nothing, 9, "there r.tdb\n"),
+            (
+                "restore s.tdb",
+                TWICE,
+                Nothing,
+                7,
+                "input malformed at 31\n",
+            ),
+        ],
+        left: &[
+            ("r.tdb", Left::Checks("number 2\n")),
+            ("s.tdb", Left::Missing),
+        ],
     },
 ];

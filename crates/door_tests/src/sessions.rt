@@ -83,6 +83,7 @@ pub(crate) static TABLES: [Table; 4] = [
                 "full 696 32\nnumber 0\n",
             ),
             ("tool f.tdb", "quit\nstore a 1\n", Nothing, 0, ""),
+            ("tool f.tdb", "store a 1\n", Input(0), 8, "input fault\n"),
         ],
         left: &[("f.tdb", Left::Bytes(NEW))],
     },

@@ -45,6 +45,18 @@ const DOOMED: &str =
 const DOOMED_TOLD: &str =
     "1 open\n1 step\n1 step\n1 done ok\n1 done ok\n1 done ok\n1 done ok\n1 done ok\n1 done doomed\n1 step\n1 done data(1) = \"1\"\n";
 
+/// A commit that finds no room in a file that may have 4096 bytes.
+const NO_ROOM: &str = "open\ndo 1 start\ndo 1 store a 9\ndo 1 commit\ndo 1 fetch a\n";
+
+const NO_ROOM_TOLD: &str =
+    "1 open\n1 step\n1 step\n1 done ok\n1 done ok\n1 step\n1 step\n1 done full 4096 4096\n1 step\n1 done data(1) = \"1\"\n";
+
+/// A transaction within another, where there may be none.
+const NO_NESTING: &str = "open\ndo 1 start\ndo 1 start\ndo 1 commit\ndo 1 commit\n";
+
+const NO_NESTING_TOLD: &str =
+    "1 open\n1 step\n1 step\n1 done ok\n1 done nesting\n1 done ok\n1 done notransaction\n";
+
 /// The opener of a prepared transaction dies, and its gate is undone before the next turn.
 pub(crate) const PREPARED: &str =
     "open\nopen\ndo 1 start\ndo 1 store a 9\ndo 1 prepare\ngive 2 fetch a\nturn 2\ndie 1\ngo 2\n";
@@ -74,6 +86,27 @@ pub(crate) static TABLES: [Table; 4] = [
             ("turns f.tdb", DOOMED, Nothing, 0, DOOMED_TOLD),
             ("turns f.tdb", PREPARED, Nothing, 0, PREPARED_TOLD),
             ("turns f.tdb", DEATH_BEFORE, Nothing, 0, DEATH_BEFORE_TOLD),
+            (
+                "turns --limit 4096 f.tdb",
+                NO_ROOM,
+                Nothing,
+                0,
+                NO_ROOM_TOLD,
+            ),
+            (
+                "turns --no-nesting f.tdb",
+                NO_NESTING,
+                Nothing,
+                0,
+                NO_NESTING_TOLD,
+            ),
+            (
+                "turns f.tdb",
+                "open\ndo 1 start\n",
+                Disk("f.tdb", Call::Sync, 0),
+                4,
+                "1 open\n1 step\n1 step\ndevice fault\n",
+            ),
         ],
         left: &[("f.tdb", Left::Bytes(ONE))],
     },
