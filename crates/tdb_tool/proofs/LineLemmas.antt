@@ -1,8 +1,8 @@
 -- A line that is put together from the bytes up to its newline.
-use Rattle.std.proofs.Common.{◌≡◌, ℕ, zero, suc, ◌+◌, ◌-◌, ◌<◌, ◌≤◌, true, false, Bool, List, [], ◌∷◌, ◌++◌, length, get_or, take, drop, take-append-drop, None, Some, refl, sym, ◌∙◌, ap, subst, inl, inr, arith, length-append, if◌then◌else◌}
-use Rattle.std.specs.Prelude.{position}
+use Rattle.std.proofs.Common.{◌≡◌, ℕ, zero, suc, ◌+◌, ◌-◌, ◌<◌, ◌≤◌, true, false, Bool, List, [], ◌∷◌, ◌++◌, length, get_or, take, drop, take-append-drop, None, Some, refl, sym, ◌∙◌, ap, subst, inl, inr, arith, length-append, if◌then◌else◌, Option}
+use Rattle.std.specs.Prelude.{position, IsTrue, MatchOption}
 use Rattle.std.specs.List.{All, slice_split, onto_first}
-use Rattle.std.proofs.lemmas.List.{append_assoc, append-nil, drop_more, drop-drop, drop-take, get_or-take, length-take}
+use Rattle.std.proofs.lemmas.List.{append_assoc, append-nil, drop_more, drop-drop, drop-take, get_or-take, get_or_at, length-take}
 use Rattle.std.proofs.lemmas.List.Elements.{All-append}
 use Rattle.std.proofs.lemmas.List.Splits.{slice_split_at, slice_split_none, slice_split-cons_yes, slice_split-cons_no}
 use Rattle.std.proofs.lemmas.List.Sums.{fails_before_first, passes_at_first}
@@ -10,8 +10,28 @@ use Rattle.std.proofs.lemmas.Bool.Decides.{nat_tests}
 use Rattle.tdb_script.specs.Lines.{is_newline, lines_of}
 use Rattle.tdb_script.proofs.CutLemmas.{found_place, found_inside, not_found}
 use Rattle.tdb_tool.specs.declared.limits.TheConstants.{LONGEST_LINE}
-use Rattle.tdb_tool.specs.Asking.{Fits}
-use Rattle.tdb_tool.specs.Lines.{IsBare, FirstLine}
+use Rattle.tdb_tool.specs.declared.asking.Asked.{Asked}
+use Rattle.tdb_tool.specs.declared.asking.Asked.TheVariants as Asks
+use Rattle.tdb_tool.specs.declared.fault.SessionEnd.TheVariants.{Ended, Malformed}
+use Rattle.tdb_tool.specs.Asked.{LineIs, NextIs}
+use Rattle.tdb_tool.specs.Asking.{Fits, EndsBefore}
+use Rattle.tdb_tool.specs.declared.reader.LineReader.{LineReader}
+use Rattle.tdb_tool.specs.Lines.{IsBare, NeedsNoMore, FirstLine, unread}
+
+-- a reader that needs no more for its next line isn't at the end of bytes without a newline
+pub no_line : (r : LineReader) → NeedsNoMore r → r.over ≡ false → IsBare (unread r) → ⊥
+no_line r (inl over) more bare = cc (sym over ∙ more)
+no_line r (inr (front, rest, e)) more bare =
+    let whole = subst IsBare e bare in
+    let is : is_newline 10 ≡ false = ap is_newline (sym (get_or_at front 10 rest 0 (length front) refl)) ∙ whole (length front) 0 (omega (arith, length-append front (10 ∷ rest))) in cc is
+
+-- a line goes on with the bytes at hand, and then with what was read
+pub gone_on : (text line new hand left read rest : List ℕ) → text ≡ line ++ (hand ++ left) → new ≡ line ++ hand → left ≡ read ++ rest → text ≡ new ++ (read ++ rest)
+gone_on text line new hand left read rest e is goes =
+    e ∙ sym (append_assoc line hand left) ∙ ap (λ l. l ++ left) (sym is) ∙ ap (λ t. new ++ t) goes
+
+pub still_bare : (line new hand : List ℕ) → IsBare line → IsBare hand → new ≡ line ++ hand → IsBare new
+still_bare line new hand so too is = subst IsBare (sym is) (All-append (λ b. is_newline b ≡ false) line hand so too)
 
 -- where no newline was found there is none
 pub bare_whole : (bytes : List ℕ) → position is_newline bytes ≡ None → IsBare bytes
@@ -113,3 +133,15 @@ unfit text line rest at place over more first same wrong =
     of : FirstLine text line rest → (x : List ℕ) × (others : List (List ℕ)) × (lines_of text ≡ x ∷ others) × (Fits at x → ⊥)
     of (inl e) = (line, rest, e, λ fits. wrong (subst (λ n. Fits n line) (sym same) fits))
     of (inr (long, tail, others, e)) = (line ++ tail, others, e, λ fits. (let short = fits.short in omega (arith, long, short, length-append line tail)))
+
+-- what holds by the one that there is
+pub matched : {X : Type 0} (P : Type 0) (Q : X → Type 0) (o : Option X) (x : X) → o ≡ Some x → MatchOption o P Q → Q x
+matched P Q o x e m = subst (λ z. MatchOption z P Q) e m
+
+-- what the first of some lines asks for is what is next of them
+pub next_is : (tells : Bool) (at : ℕ) (old : List (List ℕ)) (line : List ℕ) (next : ℕ) (new : List (List ℕ)) (asked : Asked) → (IsTrue tells → old ≡ line ∷ new) → next ≡ at + length line + 1 → LineIs at line asked
+    → NextIs tells at old asked next new
+next_is tells at old line next new Asks.Nothing first is L = (line, first, is, L)
+next_is tells at old line next new (Asks.Order order) first is L = (line, first, is, L)
+next_is tells at old line next new (Asks.End Ended) first is L = λ told. subst (λ ls. EndsBefore at ls Ended) (sym (first told)) L
+next_is tells at old line next new (Asks.End (Malformed place)) first is L = λ told. subst (λ ls. EndsBefore at ls (Malformed place)) (sym (first told)) L

@@ -17,6 +17,10 @@ unread r = take (r.end - r.start) (drop r.start r.piece.items)
 abbrev pub lines_left : LineReader → List ℕ → List (List ℕ)
 lines_left r left = if r.over then [] else lines_of (unread r ++ left)
 
+-- No more of the source is needed to give the next line: it is at hand with its newline, or the last line was given.
+abbrev pub NeedsNoMore : LineReader → Type 0
+NeedsNoMore r = (r.over ≡ true) ⊎ ((front rest : List ℕ) × (unread r ≡ front ++ 10 ∷ rest))
+
 -- nothing was read yet
 pub record IsFresh (r : LineReader) : Type 0 where
   pub unread : unread r ≡ []

@@ -5,7 +5,7 @@ ghost use Rattle.tdb_disk.specs.Count.{HasCauseOf};
 ghost use Rattle.tdb_tool.specs.declared.fault.SessionFault.TheVariants as FaultIs;
 ghost use Rattle.tdb_tool.specs.Asking.{Fits};
 ghost use Rattle.tdb_tool.specs.Asked.{LineIs, NextIs};
-ghost use Rattle.tdb_tool.specs.Lines.{lines_left};
+ghost use Rattle.tdb_tool.specs.Lines.{NeedsNoMore, lines_left};
 
 use crate::fault::{SessionEnd, SessionFault};
 use crate::lines::LineFault;
@@ -41,13 +41,14 @@ fn asked_by(alloc: Global, line: &[u8], at: u64) -> Result<Asked, AllocError>
     })
 }
 
-/// Reads the next line, and tells what it asks for.
+/// Reads the next line, and tells what it asks for. Nothing is read while a whole line is at hand.
 pub(crate) fn next_asked<S: Source>(
     alloc: Global,
     reader: &mut LineReader,
     input: &mut S,
 ) -> Result<Asked, SessionFault>
     ensures is { IfOk result (λ asked. NextIs S.tells reader.old.at (lines_left reader.old (S.left input.old)) asked reader.new.at (lines_left reader.new (S.left input.new))) }
+    ensures no_sooner { NeedsNoMore reader.old → input.new ≡ input.old }
     ensures fault { IfErr result (λ e. (e ≡ FaultIs.Input) ⊎ (e ≡ FaultIs.Memory)) }
     ensures cause { HasCauseOf FaultIs.Input (S.faults input.old) (S.faults input.new) result }
 {

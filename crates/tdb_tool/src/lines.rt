@@ -6,7 +6,7 @@ ghost use Rattle.tdb_script.specs.Lines.{lines_of};
 ghost use Rattle.tdb_tool.specs.declared.limits.TheConstants.{LONGEST_LINE as LONGEST};
 ghost use Rattle.tdb_tool.specs.declared.lines.LineFault.TheVariants as FaultIs;
 ghost use Rattle.tdb_tool.specs.Asking.{Fits};
-ghost use Rattle.tdb_tool.specs.Lines.{IsBare, unread, lines_left, IsFresh, MovedOn, FirstLine};
+ghost use Rattle.tdb_tool.specs.Lines.{IsBare, NeedsNoMore, unread, lines_left, IsFresh, MovedOn, FirstLine};
 
 use crate::limits::{LONGEST_LINE, LONGEST_SESSION};
 use crate::reader::LineReader;
@@ -103,6 +103,7 @@ impl LineReader {
         requires empty { line.old ≡ [] }
         requires more { self.old.over ≡ false }
         ensures first { OnOk result (IsTrue S.tells → FirstLine (unread self.old ++ S.left input.old) line.new (lines_left self.new (S.left input.new))) }
+        ensures no_sooner { NeedsNoMore self.old → input.new ≡ input.old }
         ensures len { OnOk result (length line.new ≤ LONGEST + 65536) }
         ensures place { self.new.at ≡ self.old.at }
         ensures fault { IfErr result (λ e. e ≡ FaultIs.TooLong → ⊥) }
@@ -128,13 +129,15 @@ impl LineReader {
         line.len() <= LONGEST_LINE && self.at + (line.len() as u64) < LONGEST_SESSION
     }
 
-    /// The next line, without its newline, or none behind the last one. Its bytes are copied once.
+    /// The next line, without its newline, or none behind the last one. Its bytes are copied once. Where the line is at
+    /// hand with its newline, nothing is read: who waits for the answer to it before the next line isn't kept waiting.
     pub(crate) fn next_line<S: Source>(&mut self, input: &mut S) -> Result<Option<Bytes>, LineFault>
         ensures next { let before = lines_left self.old (S.left input.old) in let after = lines_left self.new (S.left input.new) in
             IfOk result (λ next. MatchOption next (IsTrue S.tells → before ≡ [])
             (λ line. (IsTrue S.tells → before ≡ line ∷ after) × Fits self.old.at line × (self.new.at ≡ self.old.at + length line + 1))) }
         ensures long { IfErr result (λ e. e ≡ FaultIs.TooLong → IsTrue S.tells →
             (line : List ℕ) × (rest : List (List ℕ)) × (lines_left self.old (S.left input.old) ≡ line ∷ rest) × (Fits self.old.at line → ⊥)) }
+        ensures no_sooner { NeedsNoMore self.old → input.new ≡ input.old }
         ensures cause { HasCauseOf FaultIs.Input (S.faults input.old) (S.faults input.new) result }
     {
         if self.over {
