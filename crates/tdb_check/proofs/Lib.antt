@@ -31,4 +31,5 @@ pub mod Members
 pub mod Taken
 pub mod PutDown
 pub mod Weights
+pub mod Alike
 pub mod Gathered

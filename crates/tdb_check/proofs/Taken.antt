@@ -1,6 +1,6 @@
 -- Links whose records are put behind one another, and taken out along lists.
-use Rattle.std.proofs.Common.{◌≡◌, ◌≢◌, ℕ, zero, suc, ◌+◌, ◌<◌, ◌≤◌, List, [], ◌∷◌, ◌++◌, length, get_or, set, append_assoc, append-nil, length-append, refl, sym, ◌∙◌, ap, subst, inl, inr, arith}
-use Rattle.std.specs.Prelude.{◌==◌, if◌then◌else◌, sum_by}
+use Rattle.std.proofs.Common.{◌≡◌, ◌≢◌, ℕ, zero, suc, ◌+◌, ◌<◌, ◌≤◌, List, [], ◌∷◌, ◌++◌, length, get_or, set, length-append, refl, sym, ◌∙◌, ap, subst, inl, inr, arith}
+use Rattle.std.specs.Prelude.{◌==◌, if◌then◌else◌, sum_by, slice_index}
 use Rattle.std.proofs.lemmas.Bool.{cases_eq, cases_lt, eq-eqb, ne_eqb}
 use Rattle.std.proofs.lemmas.List.{get_or_append_left, get_or_push, get_or-set_same, get_or-set_other, get_or_default, length-set}
 use Rattle.std.proofs.lemmas.List.Sums.{sum_by-cons, sum_by-append, sum_by_push, sum_by-set}
@@ -8,13 +8,13 @@ use Rattle.tdb_words.specs.Word.{word}
 use Rattle.tdb_space.specs.Form.{Form, chain_head}
 use Rattle.tdb_space.specs.Record.{next_of}
 use Rattle.tdb_space.specs.Pairs.{joined}
-use Rattle.tdb_space.specs.FirstFault.{ListKind as Kind, chain_number}
+use Rattle.tdb_space.specs.FirstFault.{ListKind as Kind}
 use Rattle.tdb_space.proofs.Extents.Counts.{joined_same}
 use Rattle.tdb_check.specs.declared.links.TheConstants.{NO_LIST}
 use Rattle.tdb_check.specs.declared.links.Link.{Link}
 use Rattle.tdb_check.specs.declared.links.Links.{Links}
 use Rattle.tdb_check.specs.InSequence.{StandsIn, ListFrom}
-use Rattle.tdb_check.specs.Links.{LinkAt, AllTold, weight_left, left, ListTaken, ChainsTaken}
+use Rattle.tdb_check.specs.Links.{LinkAt, AllTold, weight_left, left, LeadsFrom, Reached, StillReached, ListsTaken, HeadsRead}
 
 -- a record that wasn't taken out weighs what it weighs
 weight_there : (w : ℕ → ℕ) (l : Link) → l.list ≢ NO_LIST → weight_left w l ≡ w l.at
@@ -95,36 +95,15 @@ all_gone w (x ∷ xs) gone =
 pub left_all : (w : ℕ → ℕ) (ls : Links) → ((k : ℕ) (d : Link) → k < length ls.links.items → (get_or ls.links.items k d).list ≡ NO_LIST) → left w ls ≡ 0
 left_all w ls gone = all_gone w ls.links.items gone
 
--- From a head to an offset the records of one of some lists were taken out: what follows from the offset on, follows
--- behind them from the head on.
-pub record TakenTo (kinds : ℕ → Kind) (f : Form) (img : List ℕ) (number head at : ℕ) (old new : Links) : Type 0 where
-  pub xs : List ℕ
-  pub from : (zs : List ℕ) → ListFrom f (kinds number) img at zs → ListFrom f (kinds number) img head (xs ++ zs)
-  pub told : AllTold kinds f img new
-  pub same : (w : ℕ → ℕ) → left w old ≡ sum_by w xs + left w new
+-- one more record follows where the last one leads
+leads_more : (f : Form) (kind : Kind) (img : List ℕ) (head : ℕ) (xs : List ℕ) (at : ℕ) → LeadsFrom f kind img head xs at → StandsIn f kind img at → LeadsFrom f kind img head (xs ++ at ∷ []) (next_of f.order img at)
+leads_more f kind img head [] at p stands = (p, stands, refl)
+leads_more f kind img head (x ∷ xs) at p stands = (p.0, p.1, leads_more f kind img (next_of f.order img x) xs at p.2 stands)
 
-pub taken_none : (kinds : ℕ → Kind) (f : Form) (img : List ℕ) (number head : ℕ) (ls : Links) → AllTold kinds f img ls → TakenTo kinds f img number head head ls ls
-taken_none kinds f img number head ls told = record { xs = []; from = λ zs p. p; told = told; same = λ w. omega arith }
-
--- one more
-pub taken_more : (kinds : ℕ → Kind) (f : Form) (img : List ℕ) (number head at next : ℕ) (old mid new : Links) → TakenTo kinds f img number head at old mid → StandsIn f (kinds number) img at → next ≡ next_of f.order img at
-    → AllTold kinds f img new → ((w : ℕ → ℕ) → left w mid ≡ w at + left w new) → TakenTo kinds f img number head next old new
-taken_more kinds f img number head at next old mid new t stands leads told less = record {
-  xs = t.xs ++ at ∷ [];
-  from = λ zs p. subst (ListFrom f (kinds number) img head) (sym (append_assoc t.xs (at ∷ []) zs))
-      (t.from (at ∷ zs) (refl, stands, subst (λ z. ListFrom f (kinds number) img z zs) leads p));
-  told = told;
-  same = λ w. omega (arith, t.same w, sum_by_push w t.xs at, less w);
-}
-
--- to the end
-pub taken_all : (kinds : ℕ → Kind) (f : Form) (img : List ℕ) (number head at : ℕ) (old new : Links) → TakenTo kinds f img number head at old new → at ≡ 0 → ListTaken kinds f img number head old new
-taken_all kinds f img number head at old new t ends = record {
-  xs = t.xs;
-  from = subst (ListFrom f (kinds number) img head) (append-nil t.xs) (t.from [] ends);
-  told = t.told;
-  same = t.same;
-}
+-- where the last one leads to none, this is the whole list
+leads_end : (f : Form) (kind : Kind) (img : List ℕ) (head : ℕ) (xs : List ℕ) (to : ℕ) → LeadsFrom f kind img head xs to → to ≡ 0 → ListFrom f kind img head xs
+leads_end f kind img head [] to p ends = p ∙ ends
+leads_end f kind img head (x ∷ xs) to p ends = (p.0, p.1, leads_end f kind img (next_of f.order img x) xs to p.2 ends)
 
 -- lists of which the one of a number is another
 abbrev put : ℕ → List ℕ → (ℕ → List ℕ) → ℕ → List ℕ
@@ -136,27 +115,81 @@ put_here j ys F k e = rw (eq-eqb k j e) refl
 put_other : (j : ℕ) (ys : List ℕ) (F : ℕ → List ℕ) (k : ℕ) → (k ≡ j → ⊥) → put j ys F k ≡ F k
 put_other j ys F k ne = rw (ne_eqb k j ne) refl
 
--- no chain
-pub chains_none : (f : Form) (img : List ℕ) (ls : Links) → AllTold chain_number f img ls → ChainsTaken f img 0 ls ls
-chains_none f img ls told = record { chain = λ j. []; from = λ j low. absurd (omega (arith, low)); told = told; same = λ w. omega arith }
+-- lists without records weigh nothing
+none_joined : (w : ℕ → ℕ) (n : ℕ) → sum_by w (joined n (λ _. [])) ≡ 0
+none_joined w zero = refl
+none_joined w (suc n) = omega (arith, sum_by-append w (joined n (λ _. [])) [], none_joined w n)
 
--- one more chain
-pub chains_more : (f : Form) (img : List ℕ) (n head : ℕ) (old mid new : Links) → ChainsTaken f img n old mid → ListTaken chain_number f img n head mid new → head ≡ word f.order img (chain_head n) → ChainsTaken f img (suc n) old new
-chains_more f img n head old mid new c t is =
-    let chain : ℕ → List ℕ = put n t.xs c.chain in
+-- lists of which one has one more record weigh more by it
+joined_more : (w : ℕ → ℕ) (n j x : ℕ) (F : ℕ → List ℕ) → j < n → sum_by w (joined n (put j (F j ++ x ∷ []) F)) ≡ sum_by w (joined n F) + w x
+joined_more w zero j x F low = absurd (omega (arith, low))
+joined_more w (suc n) j x F low =
+    let G : ℕ → List ℕ = put j (F j ++ x ∷ []) F in
+    let now = sum_by-append w (joined n G) (G n) in
+    let before = sum_by-append w (joined n F) (F n) in
+    elim (cases_eq n j) [
+      | inl here ↦
+          let front : sum_by w (joined n G) ≡ sum_by w (joined n F) = ap (sum_by w) (joined_same n G F (λ k under. put_other j (F j ++ x ∷ []) F k (λ e. absurd (omega (arith, under, e, here))))) in
+          let last : sum_by w (G n) ≡ sum_by w (F n ++ x ∷ []) = ap (sum_by w) (put_here j (F j ++ x ∷ []) F n here ∙ ap (λ k. F k ++ x ∷ []) (sym here)) in
+          omega (arith, now, before, front, last, sum_by_push w (F n) x)
+      | inr other ↦
+          let last : sum_by w (G n) ≡ sum_by w (F n) = ap (sum_by w) (put_other j (F j ++ x ∷ []) F n other) in
+          omega (arith, now, before, last, joined_more w n j x F (omega (arith, low, other)))
+    ]
+
+-- no list was followed yet
+reached_none : (kinds : ℕ → Kind) (f : Form) (img heads : List ℕ) (ls : Links) → AllTold kinds f img ls → Reached kinds f img heads ls ls heads
+reached_none kinds f img heads ls told = record {
+  chain = λ _. [];
+  from = λ j low. refl;
+  told = told;
+  same = λ w. omega (arith, none_joined w (length heads));
+}
+
+-- one list was followed by one more record
+pub reached_more : (kinds : ℕ → Kind) (f : Form) (img heads : List ℕ) (old mid new : Links) (at now : List ℕ) (j next : ℕ) → Reached kinds f img heads old mid at → j < length at → now ≡ set at j next → StandsIn f (kinds j) img (slice_index at j)
+    → next ≡ next_of f.order img (slice_index at j) → AllTold kinds f img new → ((w : ℕ → ℕ) → left w mid ≡ w (slice_index at j) + left w new) → Reached kinds f img heads old new now
+reached_more kinds f img heads old mid new at now j next r low is stands leads told less =
+    let x = slice_index at j in
+    let long : length now ≡ length at = ap length is ∙ length-set at j next in
+    let chain : ℕ → List ℕ = put j (r.chain j ++ x ∷ []) r.chain in
     record {
       chain = chain;
-      from = λ j low. elim (cases_eq j n) [
+      from = λ k under. elim (cases_eq k j) [
         | inl here ↦
-            subst (ListFrom f (chain_number j) img (word f.order img (chain_head j))) (sym (put_here n t.xs c.chain j here))
-            (subst (λ k. ListFrom f (chain_number k) img (word f.order img (chain_head k)) t.xs) (sym here)
-            (subst (λ h. ListFrom f (chain_number n) img h t.xs) is t.from))
+            let there : slice_index now k ≡ next_of f.order img x = ap (λ xs. get_or xs k 0) is ∙ ap (λ n. get_or (set at j next) n 0) here ∙ get_or-set_same at j next 0 low ∙ leads in
+            let more : LeadsFrom f (kinds k) img (slice_index heads k) (r.chain j ++ x ∷ []) (next_of f.order img x) =
+            subst (λ n. LeadsFrom f (kinds n) img (slice_index heads n) (r.chain j ++ x ∷ []) (next_of f.order img x)) (sym here) (leads_more f (kinds j) img (slice_index heads j) (r.chain j) x (r.from j low) stands) in
+            subst (λ n. LeadsFrom f (kinds k) img (slice_index heads k) (chain k) n) (sym there)
+            (subst (λ ys. LeadsFrom f (kinds k) img (slice_index heads k) ys (next_of f.order img x)) (sym (put_here j (r.chain j ++ x ∷ []) r.chain k here)) more)
         | inr other ↦
-            subst (ListFrom f (chain_number j) img (word f.order img (chain_head j))) (sym (put_other n t.xs c.chain j other)) (c.from j (omega (arith, low, other)))
+            let there : slice_index now k ≡ slice_index at k = ap (λ xs. get_or xs k 0) is ∙ get_or-set_other at j k next 0 other in
+            subst (λ n. LeadsFrom f (kinds k) img (slice_index heads k) (chain k) n) (sym there)
+            (subst (λ ys. LeadsFrom f (kinds k) img (slice_index heads k) ys (slice_index at k)) (sym (put_other j (r.chain j ++ x ∷ []) r.chain k other)) (r.from k (omega (arith, under, long))))
       ];
-      told = t.told;
-      same = λ w.
-          (let front : sum_by w (joined n chain) ≡ sum_by w (joined n c.chain) = ap (sum_by w) (joined_same n chain c.chain (λ k low. put_other n t.xs c.chain k (λ e. absurd (omega (arith, low, e))))) in
-          let last : sum_by w (chain n) ≡ sum_by w t.xs = ap (sum_by w) (put_here n t.xs c.chain n refl) in
-          omega (arith, c.same w, t.same w, sum_by-append w (joined n chain) (chain n), front, last));
+      told = told;
+      same = λ w. omega (arith, r.same w, less w, joined_more w (length at) j x r.chain low, ap (λ n. sum_by w (joined n chain)) long);
     }
+
+-- each list was followed to its end
+pub reached_all : (kinds : ℕ → Kind) (f : Form) (img heads now : List ℕ) (old new : Links) → AllTold kinds f img old → StillReached old heads new now → length now ≡ length heads → ((j : ℕ) → j < length now → slice_index now j ≡ 0) → ListsTaken kinds f img heads old new
+reached_all kinds f img heads now old new told still long ends =
+    let r = still kinds f img heads old (reached_none kinds f img heads old told) in
+    record {
+      chain = r.chain;
+      from = λ j low.
+          (let under : j < length now = omega (arith, low, long) in
+          leads_end f (kinds j) img (slice_index heads j) (r.chain j) (slice_index now j) (r.from j under) (ends j under));
+      same = λ w. omega (arith, r.same w, ap (λ n. sum_by w (joined n r.chain)) long);
+    }
+
+-- one more head was read
+pub heads_more : (f : Form) (img heads now : List ℕ) (w : ℕ) → HeadsRead f img heads → now ≡ heads ++ w ∷ [] → w ≡ word f.order img (chain_head (length heads)) → HeadsRead f img now
+heads_more f img heads now w read is next j low =
+    let there : slice_index now j ≡ get_or (heads ++ w ∷ []) j 0 = ap (λ xs. get_or xs j 0) is in
+    elim (cases_lt j (length heads)) [
+      | inl before ↦ there ∙ get_or_append_left heads (w ∷ []) 0 j before ∙ read j before
+      | inr behind ↦
+          let last : length heads ≡ j = omega (arith, behind, low, ap length is, length-append heads (w ∷ [])) in
+          there ∙ get_or_push heads w 0 j last ∙ next ∙ ap (λ n. word f.order img (chain_head n)) last
+    ]

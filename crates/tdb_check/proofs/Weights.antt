@@ -84,7 +84,7 @@ counted_none k (q ∷ qs) none =
     ]
 
 -- among keys that differ each is counted once at most
-counted_once : (k : List ℕ) (qs : List (List ℕ)) → IsDistinct same_key qs → count_by (same_key k) qs ≤ 1
+pub counted_once : (k : List ℕ) (qs : List (List ℕ)) → IsDistinct same_key qs → count_by (same_key k) qs ≤ 1
 counted_once k [] d = omega arith
 counted_once k (q ∷ qs) d =
     let parts = sum_by-cons (λ p. cond (same_key k p) 1 0) q qs in
@@ -99,7 +99,7 @@ counted_once k (q ∷ qs) d =
     ]
 
 -- and the other way round
-once_differ : (qs : List (List ℕ)) → ((k : List ℕ) → count_by (same_key k) qs ≤ 1) → IsDistinct same_key qs
+pub once_differ : (qs : List (List ℕ)) → ((k : List ℕ) → count_by (same_key k) qs ≤ 1) → IsDistinct same_key qs
 unfolding IsDistinct
 once_differ [] once_each = tt
 once_differ (q ∷ qs) once_each =

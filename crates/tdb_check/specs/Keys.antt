@@ -1,5 +1,5 @@
 -- What is noted of the keys of one chain, and what it says of two records with one key.
-use Rattle.std.specs.Prelude.{◌≡◌, ℕ, ◌+◌, ◌<◌, ◌≤◌, ◌==◌, true, Option, Some, None, List, [], ◌∷◌, ◌++◌, length, map, slice_index_or, if◌then◌else◌}
+use Rattle.std.specs.Prelude.{◌≡◌, ℕ, ◌+◌, ◌<◌, ◌≤◌, ◌==◌, ◌%◌, nat_lt, Bool, true, Option, Some, None, List, [], ◌∷◌, ◌++◌, length, map, count_by, slice_index, slice_index_or, if◌then◌else◌}
 use Rattle.std.specs.List.{All, IsDistinct}
 use Rattle.tdb_words.specs.declared.record.TheConstants.{USED}
 use Rattle.sha2.specs.Sha256.{sha256}
@@ -79,3 +79,17 @@ pub record KeptIn (f : Form) (img xs : List ℕ) (k : Keys) : Type 0 where
 abbrev pub TwinFound : Form → List ℕ → List ℕ → Option ℕ → Type 0
 TwinFound f img xs None = KeysDiffer f img xs
 TwinFound f img xs (Some at) = (ys : List ℕ) × (zs : List ℕ) × (xs ≡ ys ++ at ∷ zs) × KeysDiffer f img ys × (has_twin f img ys at ≡ true)
+
+-- Where a table counts a place once at most, at most one of these records has a mark of that place.
+abbrev pub CountsMarks : List ℕ → List Noted → Type 0
+CountsMarks counts es = (k : ℕ) → k < length counts → slice_index counts k ≤ 1 → count_by (λ e. e.mark % length counts == k) es ≤ 1
+
+-- a mark of its place is counted more than once
+abbrev pub is_alike : List ℕ → Noted → Bool
+is_alike counts e = nat_lt 1 (slice_index counts (e.mark % length counts))
+
+-- some of these records are noted, and where no two of them have the same key, no two of all have
+pub record KeptAlike (f : Form) (img xs : List ℕ) (k : Keys) : Type 0 where
+  pub ys : List ℕ
+  pub kept : KeptIn f img ys k
+  pub enough : KeysDiffer f img ys → KeysDiffer f img xs

@@ -1,5 +1,5 @@
 -- The records of a file in the order in which they stand, and its lists as these are followed among them.
-use Rattle.std.specs.Prelude.{◌≡◌, ◌≢◌, ℕ, ◌+◌, ◌-◌, ◌<◌, ◌≤◌, ◌==◌, if◌then◌else◌, Option, List, [], ◌∷◌, length, sum_by, slice_index_or}
+use Rattle.std.specs.Prelude.{◌≡◌, ◌≢◌, ℕ, ◌+◌, ◌-◌, ◌<◌, ◌≤◌, ◌==◌, if◌then◌else◌, Option, List, [], ◌∷◌, length, sum_by, slice_index, slice_index_or}
 use Rattle.tdb_words.specs.declared.record.TheConstants.{USED}
 use Rattle.tdb_words.specs.declared.word.Order.{Order}
 use Rattle.tdb_words.specs.Word.{word}
@@ -37,19 +37,31 @@ weight_left w l = if l.list == NO_LIST then 0 else w l.at
 abbrev pub left : (ℕ → ℕ) → Links → ℕ
 left w ls = sum_by (weight_left w) ls.links.items
 
--- the records of one of some lists, from its head to its end, were taken out
-pub record ListTaken (kinds : ℕ → Kind) (f : Form) (img : List ℕ) (number head : ℕ) (old new : Links) : Type 0 where
-  pub xs : List ℕ
-  pub from : ListFrom f (kinds number) img head xs
-  pub told : AllTold kinds f img new
-  pub same : (w : ℕ → ℕ) → left w old ≡ sum_by w xs + left w new
+-- from an offset on records of a list follow one another by their next words, and the last leads to another offset
+abbrev pub LeadsFrom : Form → Kind → List ℕ → ℕ → List ℕ → ℕ → Type 0
+LeadsFrom f kind img at [] to = at ≡ to
+LeadsFrom f kind img at (x ∷ xs) to = (at ≡ x) × StandsIn f kind img x × LeadsFrom f kind img (next_of f.order img x) xs to
 
--- the records of the first n chains were taken out
-pub record ChainsTaken (f : Form) (img : List ℕ) (n : ℕ) (old new : Links) : Type 0 where
+-- from these heads some lists were followed to these offsets, and the records on the way were taken out
+pub record Reached (kinds : ℕ → Kind) (f : Form) (img heads : List ℕ) (old new : Links) (at : List ℕ) : Type 0 where
   pub chain : ℕ → List ℕ
-  pub from : (j : ℕ) → j < n → ListFrom f (chain_number j) img (word f.order img (chain_head j)) (chain j)
-  pub told : AllTold chain_number f img new
-  pub same : (w : ℕ → ℕ) → left w old ≡ sum_by w (joined n chain) + left w new
+  pub from : (j : ℕ) → j < length at → LeadsFrom f (kinds j) img (slice_index heads j) (chain j) (slice_index at j)
+  pub told : AllTold kinds f img new
+  pub same : (w : ℕ → ℕ) → left w old ≡ sum_by w (joined (length at) chain) + left w new
+
+-- lists that were followed to some offsets were then followed to these
+abbrev pub StillReached : Links → List ℕ → Links → List ℕ → Type 0
+StillReached mid at new next = (kinds : ℕ → Kind) (f : Form) (img heads : List ℕ) (old : Links) → Reached kinds f img heads old mid at → Reached kinds f img heads old new next
+
+-- the records of some lists, from their heads to their ends, were taken out
+pub record ListsTaken (kinds : ℕ → Kind) (f : Form) (img heads : List ℕ) (old new : Links) : Type 0 where
+  pub chain : ℕ → List ℕ
+  pub from : (j : ℕ) → j < length heads → ListFrom f (kinds j) img (slice_index heads j) (chain j)
+  pub same : (w : ℕ → ℕ) → left w old ≡ sum_by w (joined (length heads) chain) + left w new
+
+-- the first heads of the chains, by number
+abbrev pub HeadsRead : Form → List ℕ → List ℕ → Type 0
+HeadsRead f img heads = (j : ℕ) → j < length heads → slice_index heads j ≡ word f.order img (chain_head j)
 
 -- 1 for a used record
 abbrev pub is_used : Order → List ℕ → ℕ → ℕ

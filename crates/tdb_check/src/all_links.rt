@@ -1,20 +1,22 @@
 // The records of all lists of a file, and whether the lists have just these.
 
-ghost use Rattle.std.specs.Prelude.{◌≡◌, ℕ, ◌+◌, ◌*◌, ◌^◌, ◌<◌, ◌≤◌, List, [], ◌∷◌, ◌++◌, IsTrue, IfOk, OnOk, length, take, drop};
-ghost use Rattle.tdb_disk.specs.Count.{HasCause, RoseUpTo};
+ghost use Rattle.std.specs.Prelude.{◌≡◌, ℕ, ◌+◌, ◌*◌, ◌^◌, ◌<◌, ◌≤◌, List, [], ◌∷◌, ◌++◌, IsTrue, IfOk, IfErr, OnOk, length, take, drop};
+ghost use Rattle.tdb_disk.specs.Count.{HasCauseOf, RoseUpTo};
 ghost use Rattle.tdb_words.specs.Record.{rec_at};
 ghost use Rattle.tdb_space.specs.Form.{Form, data_start, chain_head};
 ghost use Rattle.tdb_space.specs.Frame.{Looked};
 ghost use Rattle.tdb_check.specs.declared.links.TheConstants.{NO_LIST as no_list};
-ghost use Rattle.tdb_check.specs.declared.links.Links.{Links as TheLinks};
 ghost use Rattle.tdb_check.specs.InSequence.{IsAmong};
-ghost use Rattle.tdb_check.specs.Links.{ChainsTaken};
+ghost use Rattle.tdb_check.specs.Links.{HeadsRead};
+ghost use Rattle.tdb_check.specs.Seen.{Names};
+ghost use Rattle.tdb_check.specs.declared.refusal.CheckRefusal.TheVariants.{Io as DiskFailed};
 
 use crate::chain::used_count;
 use crate::links::Links;
 use crate::list_kind::ListKind;
+use crate::refusal::CheckRefusal;
 use std::alloc::{AllocError, Global};
-use tdb_space::{Io, Space};
+use tdb_space::Space;
 use tdb_words::{Order, Rec, word_at, word_in};
 
 /// How many heads are read at once.
@@ -100,30 +102,24 @@ impl AllLinks {
     }
 
     /// Whether the lists have just these records, by their heads: takes out what each list leads to. It reads all
-    /// heads, 1,024 at a time.
-    pub fn are_lists<S: Space>(&mut self, s: &mut S) -> Result<bool, Io>
+    /// heads, and keeps those of the chains, 4 bytes each. At the end it gives back all memory.
+    pub fn are_lists<S: Space>(mut self, alloc: Global, s: &mut S) -> Result<bool, CheckRefusal>
         requires heads { data_start (S.form s.old) ≤ S.size s.old }
-        ensures lists { IfOk result (λ all. IsTrue all → IsTrue S.tells → (xs : List ℕ) → PutDown (S.form s.old) (S.image s.old) xs self.old → AreLists (S.form s.old) (S.image s.old) self.old) }
+        ensures lists { IfOk result (λ all. IsTrue all → IsTrue S.tells → (xs : List ℕ) → PutDown (S.form s.old) (S.image s.old) xs self → AreLists (S.form s.old) (S.image s.old) self) }
+        ensures no_fault { IfErr result (λ e. Names e (λ _. ⊥)) }
         ensures looked { Looked S.Space s.old s.new }
-        ensures cause { HasCause (S.faults s.old) (S.faults s.new) result }
+        ensures cause { HasCauseOf DiskFailed (S.faults s.old) (S.faults s.new) result }
         ensures bytes_read { RoseUpTo (4 + 4 * (S.form s.old).chains) (S.bytes_read s.old) (S.bytes_read s.new) }
     {
         let mut word = [0u8; 4];
         s.read(168, &mut word)?;
-        if !self.free.follow(0, word_at(&word, s.order())) {
+        let mut free_head = [word_at(&word, s.order())];
+        if !self.free.follow(&mut free_head) {
             return Ok(false);
         }
-        let chains = s.hash_size();
-        let mut block = [0u8; 4096];
-        let mut first = 0u32;
-        while first < chains {
-            let count = HEADS.min(chains - first);
-            let heads = &mut block[..4 * count as usize];
-            s.read(172 + 4 * first as u64, heads)?;
-            if !follow_block(&mut self.chained, first, count, heads, s.order()) {
-                return Ok(false);
-            }
-            first += count;
+        let mut heads = read_heads(alloc, s)?;
+        if !self.chained.follow(&mut heads) {
+            return Ok(false);
         }
         Ok(self.are_taken())
     }
@@ -136,19 +132,40 @@ impl AllLinks {
     }
 }
 
-/// Takes out the records of the chains whose heads are the words of a block, from number `first` on. False where one
-/// leads to what isn't a record of it, or back.
-fn follow_block(chained: &mut Links, first: u32, count: u32, heads: &[u8], order: Order) -> bool
-    requires numbers { first + count < 2 ^ 32 }
-    requires block { length heads.now ≡ 4 * count }
-    ensures { IsTrue result → (f : Form) (img : List ℕ) (before : TheLinks) → order ≡ f.order → heads.now ≡ take (4 * count) (drop (chain_head first) img)
-        → ChainsTaken f img first before chained.old → ChainsTaken f img (first + count) before chained.new }
+/// The heads of all chains, by number. It reads 1,024 at a time.
+fn read_heads<S: Space>(alloc: Global, s: &mut S) -> Result<Vec<u32>, CheckRefusal>
+    requires heads { data_start (S.form s.old) ≤ S.size s.old }
+    ensures heads { IfOk result (λ heads. IsTrue S.tells → HeadsRead (S.form s.old) (S.image s.old) heads.items) }
+    ensures long { IfOk result (λ heads. length heads.items ≡ (S.form s.old).chains) }
+    ensures low { (S.form s.old).chains < 2 ^ 32 }
+    ensures no_fault { IfErr result (λ e. Names e (λ _. ⊥)) }
+    ensures looked { Looked S.Space s.old s.new }
+    ensures cause { HasCauseOf DiskFailed (S.faults s.old) (S.faults s.new) result }
+    ensures bytes_read { RoseUpTo (4 * (S.form s.old).chains) (S.bytes_read s.old) (S.bytes_read s.new) }
+{
+    let chains = s.hash_size();
+    let mut heads = Vec::with_capacity(alloc, chains as usize)?;
+    let mut block = [0u8; 4096];
+    let mut first = 0u32;
+    while first < chains {
+        let count = HEADS.min(chains - first);
+        let words = &mut block[..4 * count as usize];
+        s.read(172 + 4 * first as u64, words)?;
+        put_words(words, count, s.order(), &mut heads)?;
+        first += count;
+    }
+    Ok(heads)
+}
+
+/// Puts the words of a block behind the heads before them.
+fn put_words(words: &[u8], count: u32, order: Order, heads: &mut Vec<u32>) -> Result<(), AllocError>
+    requires block { length words.now ≡ 4 * count }
+    ensures heads { OnOk result ((f : Form) (img : List ℕ) → order ≡ f.order → words.now ≡ take (4 * count) (drop (chain_head (length heads.old.items)) img)
+        → HeadsRead f img heads.old.items → HeadsRead f img heads.new.items) }
+    ensures long { OnOk result (length heads.new.items ≡ length heads.old.items + count) }
 {
     for i in 0..count {
-        let head = word_in(heads, 4 * i as usize, order);
-        if !chained.follow(first + i, head) {
-            return false;
-        }
+        heads.push(word_in(words, 4 * i as usize, order))?;
     }
-    true
+    Ok(())
 }

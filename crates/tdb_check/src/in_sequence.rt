@@ -136,9 +136,10 @@ pub(crate) fn check_in_sequence<S: Space>(
         dead_bytes: 0,
         area: area_len(undo),
     };
-    if !lists.are_lists(s)? {
+    if !lists.are_lists(alloc, s)? {
         return Ok(None);
     }
+    keys.keep_alike(alloc)?;
     if !keys.differ(s, len)? {
         return Ok(None);
     }

@@ -2,12 +2,13 @@
 
 ghost use Rattle.std.specs.Prelude.{◌≡◌, ℕ, ◌+◌, ◌*◌, None, slice_index_or, sum_by, ◌<◌, ◌≤◌, true, List, [], ◌∷◌, ◌++◌, false, map, IsTrue, length, take, IfOk, IfErr, OnOk, MatchBool};
 ghost use Rattle.tdb_disk.specs.Count.{HasCauseOf, RoseUpTo};
+ghost use Rattle.std.specs.List.{filter};
 ghost use Rattle.std.specs.List.Sorted.{IsNonDecreasingBy, IsPermutation};
 ghost use Rattle.tdb_words.specs.Hash.{h_jenkins};
 ghost use Rattle.tdb_space.specs.Form.{Form};
 ghost use Rattle.tdb_space.specs.Accepted.{KeysDiffer};
 ghost use Rattle.tdb_check.specs.Seen.{Names, FoundAt};
-ghost use Rattle.tdb_check.specs.Keys.{mark_of, notes_of, digested, MarksRise, NoLargeGroup, AllNoted, NotedDiffer, TwinAt, NoTwinBefore};
+ghost use Rattle.tdb_check.specs.Keys.{mark_of, notes_of, digested, MarksRise, NoLargeGroup, AllNoted, NotedDiffer, TwinAt, NoTwinBefore, CountsMarks, is_alike};
 ghost use Rattle.tdb_check.specs.Reads.{key_bytes, shared, shared_by_pairs, twin_reads};
 ghost use Rattle.tdb_space.specs.Frame.{Looked};
 ghost use Rattle.tdb_check.specs.declared.refusal.CheckRefusal.TheVariants.{Io};
@@ -16,8 +17,12 @@ use crate::record::Found;
 use crate::refusal::CheckRefusal;
 use crate::same_key::{key_digest, same_key};
 use std::alloc::{AllocError, Global};
+use std::mem::swap;
 use tdb_space::Space;
 use tdb_words::USED;
+
+/// How many places a table of marks has for each record.
+const PLACES: u32 = 4;
 
 /// A used record, by what tells its key from most others.
 #[derive(Clone, Copy)]
@@ -41,7 +46,7 @@ pub struct Keys {
 }
 
 impl Keys {
-    ghost use Rattle.tdb_check.specs.Keys.{KeptIn, IsKeyed, TwinFound};
+    ghost use Rattle.tdb_check.specs.Keys.{KeptIn, KeptAlike, IsKeyed, TwinFound};
 
     /// No record. It takes no memory.
     pub fn new(alloc: Global) -> Self
@@ -122,6 +127,32 @@ impl Keys {
         Ok(Some(self.noted[least].at))
     }
 
+    /// Forgets most of the records whose key no other has, by their marks, and none of the others. It takes time in
+    /// proportion to the number of records; while it runs four bytes a record, and twelve for each that is left at
+    /// first.
+    pub fn keep_alike(&mut self, alloc: Global) -> Result<(), AllocError>
+        ensures kept { OnOk result ((f : Form) (img xs : List ℕ) → KeptIn f img xs self.old → KeptAlike f img xs self.new) }
+        ensures bytes { OnOk result (key_bytes self.new.noted.items ≤ key_bytes self.old.noted.items) }
+    {
+        self.forget_lone(alloc)?;
+        self.forget_lone(alloc)?;
+        self.forget_lone(alloc)?;
+        Ok(())
+    }
+
+    /// Forgets each record whose mark has a place in a table that no other mark has: no other record has its key. Since
+    /// the table's length goes by the number of records, other marks share a place each time.
+    fn forget_lone(&mut self, alloc: Global) -> Result<(), AllocError>
+        ensures kept { OnOk result ((f : Form) (img xs : List ℕ) → KeptIn f img xs self.old → KeptAlike f img xs self.new) }
+        ensures bytes { OnOk result (key_bytes self.new.noted.items ≤ key_bytes self.old.noted.items) }
+    {
+        let places = places_for(self.noted.len());
+        let counts = mark_counts(alloc, &self.noted, places)?;
+        copy_alike(&self.noted, &counts, places, &mut self.sorted)?;
+        swap(&mut self.noted, &mut self.sorted);
+        Ok(())
+    }
+
     /// Whether no two of the records have the same key; false also where more than eight have one mark. Keys are read
     /// only where two have one mark. It takes n log n steps for n records and no memory, and leaves no record.
     pub fn differ<S: Space>(&mut self, s: &mut S, len: u64) -> Result<bool, CheckRefusal>
@@ -172,6 +203,49 @@ impl Keys {
         }
         any_twins(s, len, &self.sorted)
     }
+}
+
+/// How many places a table of the marks of so many records has.
+fn places_for(count: usize) -> u32
+    ensures { 0 < result }
+{
+    let count = u32::try_from(count).unwrap_or(u32::MAX);
+    count.saturating_mul(PLACES).saturating_add(1)
+}
+
+/// How many records there are of the marks of each place in a table of so many. More than 255 count as 255.
+fn mark_counts(alloc: Global, noted: &[Noted], places: u32) -> Result<Vec<u8>, AllocError>
+    requires some { 0 < places }
+    ensures long { IfOk result (λ counts. length counts.items ≡ places) }
+    ensures counted { IfOk result (λ counts. CountsMarks counts.items noted.now) }
+{
+    let mut counts = Vec::new(alloc);
+    counts.resize(places as usize, 0u8)?;
+    for record in noted {
+        let place = (record.mark % places) as usize;
+        counts[place] = counts[place].saturating_add(1);
+    }
+    Ok(counts)
+}
+
+/// Makes a list those of these records whose mark has a place that is counted more than once.
+fn copy_alike(
+    noted: &[Noted],
+    counts: &[u8],
+    places: u32,
+    alike: &mut Vec<Noted>,
+) -> Result<(), AllocError>
+    requires some { 0 < places }
+    requires long { length counts.now ≡ places }
+    ensures { OnOk result (alike.new.items ≡ filter (is_alike counts.now) noted.now) }
+{
+    alike.clear();
+    for record in noted {
+        if counts[(record.mark % places) as usize] > 1 {
+            put(alike, *record)?;
+        }
+    }
+    Ok(())
 }
 
 /// Whether two of these records have the same key, by digests of all keys, for which there is a list.

@@ -77,21 +77,21 @@ fn same_bytes<S: Space>(s: &mut S, first: u64, second: u64, count: u64) -> Resul
 
 /// The first word of the SHA-256 digest of a record's key, which is read in pieces of 4096 bytes. A key that passes the
 /// end of the file makes its record bad.
-pub fn key_digest<S: Space>(s: &mut S, len: u64, record: &Noted) -> Result<u32, CheckRefusal>
+pub fn key_digest<S: Space>(s: &mut S, len: u64, noted: &Noted) -> Result<u32, CheckRefusal>
     requires length { len ≡ S.size s.old }
-    ensures mark { IfOk result (λ mark. IsTrue S.tells → (other : List ℕ → ℕ) → IsNoted other (S.form s.old) (S.image s.old) record.now
-        → mark ≡ digest_mark (key_of_noted (S.form s.old) (S.image s.old) record.now)) }
-    ensures no_fault { IfErr result (λ e. IsTrue S.tells → length (S.image s.old) ≡ len → (other : List ℕ → ℕ) → IsNoted other (S.form s.old) (S.image s.old) record.now → Names e (λ _. ⊥)) }
+    ensures mark { IfOk result (λ mark. IsTrue S.tells → (other : List ℕ → ℕ) → IsNoted other (S.form s.old) (S.image s.old) noted.now
+        → mark ≡ digest_mark (key_of_noted (S.form s.old) (S.image s.old) noted.now)) }
+    ensures no_fault { IfErr result (λ e. IsTrue S.tells → length (S.image s.old) ≡ len → (other : List ℕ → ℕ) → IsNoted other (S.form s.old) (S.image s.old) noted.now → Names e (λ _. ⊥)) }
     ensures looked { Looked S.Space s.old s.new }
     ensures cause { HasCauseOf DiskFailed (S.faults s.old) (S.faults s.new) result }
-    ensures bytes_read { RoseUpTo record.now.key_len (S.bytes_read s.old) (S.bytes_read s.new) }
+    ensures bytes_read { RoseUpTo noted.now.key_len (S.bytes_read s.old) (S.bytes_read s.new) }
 {
-    let from = record.at as u64 + 24;
-    let count = record.key_len as u64;
+    let from = noted.at as u64 + 24;
+    let count = noted.key_len as u64;
     if len < from + count {
         return Err(CheckRefusal::Corrupt {
             what: What::BadRecord,
-            at: record.at as u64,
+            at: noted.at as u64,
         });
     }
     let digest = bytes_digest(s, from, count)?;

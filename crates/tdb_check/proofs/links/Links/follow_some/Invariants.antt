@@ -1,0 +1,11 @@
+-- The lists were followed on.
+use Rattle.std.proofs.Common.{◌≡◌, length}
+use Rattle.tdb_check.specs.Links.{StillReached}
+use Rattle.tdb_check.proofs.links.Links.follow_some.Given as goal
+
+abbrev pub invariant-loop-turn : goal.invariant-loop-turn
+invariant-loop-turn l = record {
+  reached : StillReached l.fn.self l.fn.at l.self l.at;
+  long : length l.at ≡ length l.fn.at;
+  as_many : length l.self.links.items ≡ length l.fn.self.links.items;
+}
