@@ -63,12 +63,17 @@ pub trait Files {
     /// How many calls have failed, and how many disks with faults were given back.
     ghost faults: { Self → ℕ };
 
+    /// Whether a name may be taken in a way. A set of files lets each be taken in any; a function that takes files asks in
+    /// its `requires` for those ways alone in which it takes them, and so tells them.
+    ghost may_take: { List ℕ → Take → Type 0 };
+
     /// Takes a file out of the set, as a disk that has no faults yet, and makes the room that giving it back needs.
     /// `Missing` is answered exactly where the file isn't there and `how` isn't `New`, `There` exactly where it is and
     /// `how` is `New`, `Failed` only where the count of faults rose, `Memory` where there was no memory. A refusal
     /// leaves the files as they were, and no answer but `Failed` raises the count.
     fn take(&mut self, alloc: Global, name: &str, how: Take) -> Result<Self::D, TakeRefusal>
-        requires { is_taken self.old name.now ≡ false }
+        requires free { is_taken self.old name.now ≡ false }
+        requires way { may_take name.now how }
         ensures missing { IsTrue Self.D.tells → IsErrOf result TakeRefusal.Missing ↔ ((held self.old name.now ≡ None) × (how ≢ Take.New)) }
         ensures there { IsTrue Self.D.tells → IsErrOf result TakeRefusal.There ↔ (IsSome (held self.old name.now) × (how ≡ Take.New)) }
         ensures missing_how { IsErrOf result TakeRefusal.Missing → how ≢ Take.New }

@@ -270,6 +270,8 @@ impl Files for MemFiles {
 
     ghost faults = { λ files. files_faults files };
 
+    ghost may_take = { λ name how. Unit {0} };
+
     fn take(&mut self, alloc: Global, name: &str, how: Take) -> Result<MemDisk, TakeRefusal>
         requires { name_is_taken self.old name.now ≡ false }
         ensures named { Fails (files_script self.old) call.Take → IsErrOf result refusal.Missing ⊎ IsErrOf result refusal.There ⊎ IsErrOf result refusal.Failed }

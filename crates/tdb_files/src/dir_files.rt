@@ -374,6 +374,8 @@ impl Files for DirFiles {
 
     ghost faults = { λ files. dir_faults files };
 
+    ghost may_take = { λ name how. Unit {0} };
+
     fn take(
         &mut self,
         alloc: Global,

@@ -9,7 +9,7 @@ returns-in-Missing-clause-refused_taken c =
     c.in_ok-mark.ensures.others
     (λ other apart. c.unmark-kept.ensures.others other apart
     ∙ ap (λ files. name_is_taken files other) c.prepare-making.ensures.rest)
-    (c.unmark-kept.ensures.free ∙ sym c.requires)
+    (c.unmark-kept.ensures.free ∙ sym c.requires.free)
 
 pub returns-in-There-clause-refused_taken : goal.returns-in-There-clause-refused_taken
 returns-in-There-clause-refused_taken c =
@@ -17,7 +17,7 @@ returns-in-There-clause-refused_taken c =
     c.in_ok-mark.ensures.others
     (λ other apart. c.unmark-kept.ensures.others other apart
     ∙ ap (λ files. name_is_taken files other) c.prepare-making.ensures.rest)
-    (c.unmark-kept.ensures.free ∙ sym c.requires)
+    (c.unmark-kept.ensures.free ∙ sym c.requires.free)
 
 pub returns-in-Memory-clause-refused_taken : goal.returns-in-Memory-clause-refused_taken
 returns-in-Memory-clause-refused_taken c =
@@ -25,7 +25,7 @@ returns-in-Memory-clause-refused_taken c =
     c.in_ok-mark.ensures.others
     (λ other apart. c.unmark-kept.ensures.others other apart
     ∙ ap (λ files. name_is_taken files other) c.prepare-making.ensures.rest)
-    (c.unmark-kept.ensures.free ∙ sym c.requires)
+    (c.unmark-kept.ensures.free ∙ sym c.requires.free)
 
 pub returns-in-Failed-clause-refused_taken : goal.returns-in-Failed-clause-refused_taken
 returns-in-Failed-clause-refused_taken c = λ other.
@@ -34,4 +34,4 @@ returns-in-Failed-clause-refused_taken c = λ other.
     c.in_ok-mark.ensures.others
     (λ other apart. c.unmark-kept.ensures.others other apart
     ∙ ap (λ files. name_is_taken files other) c.prepare-making.ensures.rest)
-    (c.unmark-kept.ensures.free ∙ sym c.requires) other
+    (c.unmark-kept.ensures.free ∙ sym c.requires.free) other
