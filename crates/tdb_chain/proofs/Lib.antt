@@ -1,4 +1,6 @@
 pub mod Walked
+pub mod Way
+pub mod Rising
 pub mod PlaceStays
 pub mod Changed
 pub mod Unlinked

@@ -1,7 +1,7 @@
 // The record of a key is changed where it stands.
 
 ghost use Rattle.std.specs.Prelude.{◌≡◌, ◌⊎◌, ◌+◌, ◌≤◌, ◌<◌, ◌^◌, ℕ, List, [], ◌∷◌, None, Some, length, IsTrue, OnOk, OnErr};
-ghost use Rattle.tdb_disk.specs.Count.{HasCause};
+ghost use Rattle.tdb_disk.specs.Count.{HasCause, RoseUpTo};
 ghost use Rattle.tdb_words.specs.declared.record.TheConstants.{DEAD};
 ghost use Rattle.tdb_space.specs.Frame.{Wrote};
 ghost use Rattle.tdb_space.specs.Record.{data_at};
@@ -15,6 +15,7 @@ ghost use Rattle.tdb_space.specs.Stays.{OnlyIn};
 ghost use Rattle.tdb_chain.specs.Place.{StandsWithin, HoldsKey};
 ghost use Rattle.tdb_chain.specs.Changed.{KeySet, OldOrWord};
 ghost use Rattle.tdb_chain.specs.Stopped.{UpdateStopped};
+ghost use Rattle.tdb_chain.specs.Reads.{write_reads};
 
 use crate::place::Place;
 use tdb_space::{Io, Space};
@@ -38,7 +39,7 @@ pub fn mark_dead<S: Space>(s: &mut S, p: &Place) -> Result<(), Io>
     ensures size { S.size s.new ≡ S.size s.old }
     ensures wrote { Wrote S.Space s.old s.new }
     ensures cause { HasCause (S.faults s.old) (S.faults s.new) result }
-    ensures bytes_read { S.bytes_read s.old ≤ S.bytes_read s.new }
+    ensures bytes_read { RoseUpTo (write_reads 1 4) (S.bytes_read s.old) (S.bytes_read s.new) }
     ensures spare { LeavesRoom 1 4 (S.spare s.old) (S.spare s.new) }
 {
     s.write_word(p.off as u64 + 20, word_bytes(DEAD, s.order()))?;
@@ -68,7 +69,7 @@ pub fn update_in_place<S: Space>(s: &mut S, p: &Place, value: &[u8]) -> Result<(
     ensures size { S.size s.new ≡ S.size s.old }
     ensures wrote { Wrote S.Space s.old s.new }
     ensures cause { HasCause (S.faults s.old) (S.faults s.new) result }
-    ensures bytes_read { S.bytes_read s.old ≤ S.bytes_read s.new }
+    ensures bytes_read { RoseUpTo (write_reads 2 (4 + length value.now)) (S.bytes_read s.old) (S.bytes_read s.new) }
     ensures spare { LeavesRoom 2 (4 + length value.now) (S.spare s.old) (S.spare s.new) }
 {
     let off = p.off as u64;

@@ -1,7 +1,7 @@
 // A record is put in front of its chain.
 
 ghost use Rattle.std.specs.Prelude.{◌≡◌, ◌+◌, ◌/◌, ◌≤◌, ◌<◌, ◌^◌, ◌⊎◌, ◌++◌, ℕ, List, [], ◌∷◌, Some, length, slice_index, IsTrue, IfOk, IfSome, OnOk, OnErr};
-ghost use Rattle.tdb_disk.specs.Count.{HasCause};
+ghost use Rattle.tdb_disk.specs.Count.{HasCause, RoseUpTo};
 ghost use Rattle.tdb_words.specs.declared.record.TheConstants.{PADDING};
 ghost use Rattle.tdb_words.specs.Hash.{h_of};
 ghost use Rattle.tdb_space.specs.Frame.{Wrote};
@@ -17,6 +17,7 @@ ghost use Rattle.tdb_space.specs.Stays.{OnlyIn};
 ghost use Rattle.tdb_chain.specs.Place.{StandsWithin, IsFound};
 ghost use Rattle.tdb_chain.specs.Changed.{KeySet, IsPadded, with_hand, without_place, hands_back, word_before};
 ghost use Rattle.tdb_chain.specs.Stopped.{LinkStopped};
+ghost use Rattle.tdb_chain.specs.Reads.{write_reads};
 
 use crate::place::Place;
 use crate::record_writing::{put_word, write_record};
@@ -52,7 +53,7 @@ fn put_in_front<S: Space>(
     ensures size { S.size s.new ≡ S.size s.old }
     ensures wrote { Wrote S.Space s.old s.new }
     ensures cause { HasCause (S.faults s.old) (S.faults s.new) result }
-    ensures bytes_read { S.bytes_read s.old ≤ S.bytes_read s.new }
+    ensures bytes_read { RoseUpTo (4 + write_reads (5 + rec_len / 4096) (28 + rec_len)) (S.bytes_read s.old) (S.bytes_read s.new) }
     ensures spare { LeavesRoom (5 + rec_len / 4096) (28 + rec_len) (S.spare s.old) (S.spare s.new) }
 {
     let head = chain_head(chain_of(hash, s.hash_size()));
@@ -105,7 +106,7 @@ pub fn link<S: Space>(
     ensures size { S.size s.new ≡ S.size s.old }
     ensures wrote { Wrote S.Space s.old s.new }
     ensures cause { HasCause (S.faults s.old) (S.faults s.new) result }
-    ensures bytes_read { S.bytes_read s.old ≤ S.bytes_read s.new }
+    ensures bytes_read { RoseUpTo (4 + write_reads (6 + h.1 / 4096) (32 + h.1)) (S.bytes_read s.old) (S.bytes_read s.new) }
     ensures spare { LeavesRoom (6 + h.1 / 4096) (32 + h.1) (S.spare s.old) (S.spare s.new) }
 {
     let at = h.off();

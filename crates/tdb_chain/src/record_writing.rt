@@ -1,7 +1,7 @@
 // The bytes of a record are written.
 
 ghost use Rattle.std.specs.Prelude.{◌≡◌, ◌+◌, ◌*◌, ◌/◌, ◌%◌, ◌≤◌, ◌<◌, ◌^◌, [], ◌∷◌, ◌++◌, length, replicate, IsTrue, OnOk};
-ghost use Rattle.tdb_disk.specs.Count.{HasCause};
+ghost use Rattle.tdb_disk.specs.Count.{HasCause, RoseUpTo};
 ghost use Rattle.tdb_disk.specs.Image.{overlay};
 ghost use Rattle.tdb_words.specs.declared.record.TheConstants.{PADDING};
 ghost use Rattle.tdb_words.specs.Word.{bytes_of_word};
@@ -12,6 +12,7 @@ ghost use Rattle.tdb_space.specs.Spare.{RoomForAll};
 ghost use Rattle.tdb_space.specs.SpareLeft.{LeavesRoom};
 ghost use Rattle.tdb_space.specs.Stays.{OnlyIn};
 ghost use Rattle.tdb_chain.specs.Changed.{OldOrWord};
+ghost use Rattle.tdb_chain.specs.Reads.{write_reads};
 
 use tdb_space::{Io, Space, fill_record};
 use tdb_words::{PADDING, Rec, rec_bytes, word_bytes};
@@ -32,7 +33,7 @@ fn put<S: Space>(s: &mut S, at: u64, bytes: &[u8]) -> Result<(), Io>
     ensures size { S.size s.new ≡ S.size s.old }
     ensures wrote { Wrote S.Space s.old s.new }
     ensures cause { HasCause (S.faults s.old) (S.faults s.new) result }
-    ensures bytes_read { S.bytes_read s.old ≤ S.bytes_read s.new }
+    ensures bytes_read { RoseUpTo (write_reads 1 (length bytes.now)) (S.bytes_read s.old) (S.bytes_read s.new) }
     ensures spare { LeavesRoom 1 (length bytes.now) (S.spare s.old) (S.spare s.new) }
 {
     s.write(at, bytes)?;
@@ -50,7 +51,7 @@ pub(crate) fn put_word<S: Space>(s: &mut S, at: u64, word: u32) -> Result<(), Io
     ensures size { S.size s.new ≡ S.size s.old }
     ensures wrote { Wrote S.Space s.old s.new }
     ensures cause { HasCause (S.faults s.old) (S.faults s.new) result }
-    ensures bytes_read { S.bytes_read s.old ≤ S.bytes_read s.new }
+    ensures bytes_read { RoseUpTo (write_reads 1 4) (S.bytes_read s.old) (S.bytes_read s.new) }
     ensures spare { LeavesRoom 1 4 (S.spare s.old) (S.spare s.new) }
 {
     s.write_word(at, word_bytes(word, s.order()))?;
@@ -69,7 +70,7 @@ fn write_short<S: Space>(s: &mut S, at: u64, rec: &Rec, key: &[u8], value: &[u8]
     ensures size { S.size s.new ≡ S.size s.old }
     ensures wrote { Wrote S.Space s.old s.new }
     ensures cause { HasCause (S.faults s.old) (S.faults s.new) result }
-    ensures bytes_read { S.bytes_read s.old ≤ S.bytes_read s.new }
+    ensures bytes_read { RoseUpTo (write_reads 1 (24 + rec.now.rec_len)) (S.bytes_read s.old) (S.bytes_read s.new) }
     ensures spare { LeavesRoom 1 (24 + rec.now.rec_len) (S.spare s.old) (S.spare s.new) }
 {
     let mut buf = [0u8; AT_ONCE];
@@ -90,7 +91,7 @@ fn write_front<S: Space>(s: &mut S, at: u64, rec: &Rec, key: &[u8], value: &[u8]
     ensures size { S.size s.new ≡ S.size s.old }
     ensures wrote { Wrote S.Space s.old s.new }
     ensures cause { HasCause (S.faults s.old) (S.faults s.new) result }
-    ensures bytes_read { S.bytes_read s.old ≤ S.bytes_read s.new }
+    ensures bytes_read { RoseUpTo (write_reads 3 (24 + length key.now + length value.now)) (S.bytes_read s.old) (S.bytes_read s.new) }
     ensures spare { LeavesRoom 3 (24 + length key.now + length value.now) (S.spare s.old) (S.spare s.new) }
 {
     let header = rec_bytes(rec, s.order());
@@ -110,7 +111,7 @@ fn write_padding<S: Space>(s: &mut S, at: u64, count: u64) -> Result<(), Io>
     ensures size { S.size s.new ≡ S.size s.old }
     ensures wrote { Wrote S.Space s.old s.new }
     ensures cause { HasCause (S.faults s.old) (S.faults s.new) result }
-    ensures bytes_read { S.bytes_read s.old ≤ S.bytes_read s.new }
+    ensures bytes_read { RoseUpTo (write_reads count (4096 * count)) (S.bytes_read s.old) (S.bytes_read s.new) }
     ensures spare { LeavesRoom count (4096 * count) (S.spare s.old) (S.spare s.new) }
 {
     let padding = [PADDING; AT_ONCE];
@@ -132,7 +133,7 @@ fn write_end<S: Space>(s: &mut S, at: u64, padding: usize, rec_len: u32) -> Resu
     ensures size { S.size s.new ≡ S.size s.old }
     ensures wrote { Wrote S.Space s.old s.new }
     ensures cause { HasCause (S.faults s.old) (S.faults s.new) result }
-    ensures bytes_read { S.bytes_read s.old ≤ S.bytes_read s.new }
+    ensures bytes_read { RoseUpTo (write_reads 1 (padding + 4)) (S.bytes_read s.old) (S.bytes_read s.new) }
     ensures spare { LeavesRoom 1 (padding + 4) (S.spare s.old) (S.spare s.new) }
 {
     let mut buf = [PADDING; LAST];
@@ -158,7 +159,7 @@ fn write_long<S: Space>(s: &mut S, at: u64, rec: &Rec, key: &[u8], value: &[u8])
     ensures size { S.size s.new ≡ S.size s.old }
     ensures wrote { Wrote S.Space s.old s.new }
     ensures cause { HasCause (S.faults s.old) (S.faults s.new) result }
-    ensures bytes_read { S.bytes_read s.old ≤ S.bytes_read s.new }
+    ensures bytes_read { RoseUpTo (write_reads (4 + rec.now.rec_len / 4096) (24 + rec.now.rec_len)) (S.bytes_read s.old) (S.bytes_read s.new) }
     ensures spare { LeavesRoom (4 + rec.now.rec_len / 4096) (24 + rec.now.rec_len) (S.spare s.old) (S.spare s.new) }
 {
     let held = key.len() as u64 + value.len() as u64;
@@ -196,7 +197,7 @@ pub(crate) fn write_record<S: Space>(
     ensures size { S.size s.new ≡ S.size s.old }
     ensures wrote { Wrote S.Space s.old s.new }
     ensures cause { HasCause (S.faults s.old) (S.faults s.new) result }
-    ensures bytes_read { S.bytes_read s.old ≤ S.bytes_read s.new }
+    ensures bytes_read { RoseUpTo (write_reads (4 + rec.now.rec_len / 4096) (24 + rec.now.rec_len)) (S.bytes_read s.old) (S.bytes_read s.new) }
     ensures spare { LeavesRoom (4 + rec.now.rec_len / 4096) (24 + rec.now.rec_len) (S.spare s.old) (S.spare s.new) }
 {
     if rec.rec_len as usize + 24 <= AT_ONCE {

@@ -1,7 +1,7 @@
 // A record is taken out of its chain.
 
 ghost use Rattle.std.specs.Prelude.{◌≡◌, ◌⊎◌, ◌≤◌, ℕ, List, [], ◌∷◌, None, IsTrue, IfOk, IfSome, OnOk, OnErr};
-ghost use Rattle.tdb_disk.specs.Count.{HasCause};
+ghost use Rattle.tdb_disk.specs.Count.{HasCause, RoseUpTo};
 ghost use Rattle.tdb_disk.specs.Image.{overlay};
 ghost use Rattle.tdb_words.specs.Word.{bytes_of_word};
 ghost use Rattle.tdb_words.specs.declared.record.TheConstants.{USED};
@@ -16,6 +16,7 @@ ghost use Rattle.tdb_space.specs.SpareLeft.{LeavesRoom};
 ghost use Rattle.tdb_space.specs.Stays.{OnlyIn};
 ghost use Rattle.tdb_chain.specs.Place.{StandsWithin, IsPlace};
 ghost use Rattle.tdb_chain.specs.Changed.{KeySet, Purged, OldOrWord, TookOut, hand_at, word_before};
+ghost use Rattle.tdb_chain.specs.Reads.{write_reads};
 
 use crate::place::Place;
 use tdb_space::{Hand, Io, Space};
@@ -30,7 +31,7 @@ fn lead_past<S: Space>(s: &mut S, p: &Place) -> Result<(), Io>
     ensures size { S.size s.new ≡ S.size s.old }
     ensures wrote { Wrote S.Space s.old s.new }
     ensures cause { HasCause (S.faults s.old) (S.faults s.new) result }
-    ensures bytes_read { S.bytes_read s.old ≤ S.bytes_read s.new }
+    ensures bytes_read { RoseUpTo (write_reads 1 4) (S.bytes_read s.old) (S.bytes_read s.new) }
     ensures spare { LeavesRoom 1 4 (S.spare s.old) (S.spare s.new) }
 {
     s.write_word(p.before as u64, word_bytes(p.rec.next, s.order()))
@@ -46,7 +47,7 @@ pub(crate) fn lead_past_old<S: Space>(s: &mut S, old: Option<Place>) -> Result<(
     ensures size { S.size s.new ≡ S.size s.old }
     ensures wrote { Wrote S.Space s.old s.new }
     ensures cause { HasCause (S.faults s.old) (S.faults s.new) result }
-    ensures bytes_read { S.bytes_read s.old ≤ S.bytes_read s.new }
+    ensures bytes_read { RoseUpTo (write_reads 1 4) (S.bytes_read s.old) (S.bytes_read s.new) }
     ensures spare { LeavesRoom 1 4 (S.spare s.old) (S.spare s.new) }
 {
     match old {
@@ -78,7 +79,7 @@ pub fn unlink<S: Space>(s: &mut S, p: Place) -> Result<Hand, Io>
     ensures size { S.size s.new ≡ S.size s.old }
     ensures wrote { Wrote S.Space s.old s.new }
     ensures cause { HasCause (S.faults s.old) (S.faults s.new) result }
-    ensures bytes_read { S.bytes_read s.old ≤ S.bytes_read s.new }
+    ensures bytes_read { RoseUpTo (write_reads 1 4) (S.bytes_read s.old) (S.bytes_read s.new) }
     ensures spare { LeavesRoom 1 4 (S.spare s.old) (S.spare s.new) }
 {
     lead_past(s, &p)?;
@@ -105,7 +106,7 @@ pub fn purge<S: Space>(s: &mut S, p: Place) -> Result<Hand, Io>
     ensures size { S.size s.new ≡ S.size s.old }
     ensures wrote { Wrote S.Space s.old s.new }
     ensures cause { HasCause (S.faults s.old) (S.faults s.new) result }
-    ensures bytes_read { S.bytes_read s.old ≤ S.bytes_read s.new }
+    ensures bytes_read { RoseUpTo (write_reads 1 4) (S.bytes_read s.old) (S.bytes_read s.new) }
     ensures spare { LeavesRoom 1 4 (S.spare s.old) (S.spare s.new) }
 {
     lead_past(s, &p)?;

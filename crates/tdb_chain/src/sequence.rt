@@ -1,7 +1,7 @@
 // The sequence number of a file, by which a reader may see that something changed.
 
-ghost use Rattle.std.specs.Prelude.{◌≡◌, ◌≤◌, ℕ, List, IsTrue, OnOk};
-ghost use Rattle.tdb_disk.specs.Count.{HasCause};
+ghost use Rattle.std.specs.Prelude.{◌≡◌, ◌+◌, ◌≤◌, ℕ, List, IsTrue, OnOk};
+ghost use Rattle.tdb_disk.specs.Count.{HasCause, RoseUpTo};
 ghost use Rattle.tdb_words.specs.Word.{word};
 ghost use Rattle.tdb_space.specs.Frame.{Wrote};
 ghost use Rattle.tdb_space.specs.Extents.{HandPair};
@@ -10,6 +10,7 @@ ghost use Rattle.tdb_space.specs.Spare.{RoomForAll};
 ghost use Rattle.tdb_space.specs.SpareLeft.{LeavesRoom};
 ghost use Rattle.tdb_chain.specs.Changed.{OldOrWord};
 ghost use Rattle.tdb_chain.specs.Raised.{next_number, OnlySequence};
+ghost use Rattle.tdb_chain.specs.Reads.{write_reads};
 
 use tdb_space::{Io, Space, read_word};
 use tdb_words::word_bytes;
@@ -31,7 +32,7 @@ pub fn raise_seq<S: Space>(s: &mut S) -> Result<(), Io>
     ensures size { S.size s.new ≡ S.size s.old }
     ensures wrote { Wrote S.Space s.old s.new }
     ensures cause { HasCause (S.faults s.old) (S.faults s.new) result }
-    ensures bytes_read { S.bytes_read s.old ≤ S.bytes_read s.new }
+    ensures bytes_read { RoseUpTo (4 + write_reads 1 4) (S.bytes_read s.old) (S.bytes_read s.new) }
     ensures spare { LeavesRoom 1 4 (S.spare s.old) (S.spare s.new) }
 {
     if s.len()? < SEQUENCE + 4 {

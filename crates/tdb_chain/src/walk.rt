@@ -1,6 +1,6 @@
 // The walk along the chain of a key.
 
-ghost use Rattle.std.specs.Prelude.{◌≡◌, ◌+◌, ◌*◌, ◌^◌, ◌<◌, ◌≤◌, List, IsTrue, length, take, drop, IfOk, IfSome, MatchBool};
+ghost use Rattle.std.specs.Prelude.{◌≡◌, ◌+◌, ◌-◌, ◌*◌, ◌^◌, ◌<◌, ◌≤◌, List, IsTrue, length, take, drop, min, IfOk, IfSome, MatchBool};
 ghost use Rattle.tdb_disk.specs.Count.{HasCause, RoseUpTo};
 ghost use Rattle.tdb_words.specs.Hash.{h_of};
 ghost use Rattle.tdb_words.specs.Record.{rec_at};
@@ -10,6 +10,7 @@ ghost use Rattle.tdb_space.specs.Extents.{HandPair};
 ghost use Rattle.tdb_space.specs.Accepted.{AcceptWith};
 ghost use Rattle.tdb_chain.specs.Place.{LiesWithin, StandsWithin, IsFound};
 ghost use Rattle.tdb_chain.specs.Wanted.{IsWanted};
+ghost use Rattle.tdb_chain.specs.Reads.{long_key_reads, find_reads};
 
 use crate::place::Place;
 use tdb_space::{
@@ -49,12 +50,13 @@ fn read_front<S: Space>(
     requires within { at + 24 ≤ len }
     requires short { key_len < 2 ^ 32 }
     ensures held { IfOk result (λ front. (24 ≤ front.held) × (front.held ≤ 512)) }
+    ensures whole { IfOk result (λ front. min (min (24 + key_len) 512) (len - at) ≤ front.held) }
     ensures long { length window.new ≡ 512 }
     ensures shows { IfOk result (λ front. IsTrue S.tells → take front.held window.new ≡ take front.held (drop at (S.image s.old))) }
     ensures header { IfOk result (λ front. IsTrue S.tells → front.rec ≡ rec_at (S.form s.old).order (S.image s.old) at) }
     ensures looked { Looked S.Space s.old s.new }
     ensures cause { HasCause (S.faults s.old) (S.faults s.new) result }
-    ensures bytes_read { RoseUpTo (24 + key_len) (S.bytes_read s.old) (S.bytes_read s.new) }
+    ensures bytes_read { RoseUpTo (min (24 + key_len) 512) (S.bytes_read s.old) (S.bytes_read s.new) }
 {
     let held = (24 + key_len).min(WINDOW).min((len - at as u64) as usize);
     let front = &mut window[..held];
@@ -74,12 +76,13 @@ fn is_wanted<S: Space>(
     key: &[u8],
 ) -> Result<bool, Io>
     requires lies { LiesWithin rec.now at (S.size s.old) }
+    requires whole { min (min (24 + length key.now) 512) (S.size s.old - at) ≤ length front.now }
     ensures wanted { IfOk result (λ wanted. IsTrue S.tells → front.now ≡ take (length front.now) (drop at (S.image s.old))
         → MatchBool wanted (IsWanted rec.now hash (S.image s.old) at key.now) (IsWanted rec.now hash (S.image s.old) at key.now → ⊥)) }
     ensures used { IfOk result (λ wanted. IsTrue wanted → rec.now.magic ≡ USED) }
     ensures looked { Looked S.Space s.old s.new }
     ensures cause { HasCause (S.faults s.old) (S.faults s.new) result }
-    ensures bytes_read { RoseUpTo (length key.now) (S.bytes_read s.old) (S.bytes_read s.new) }
+    ensures bytes_read { RoseUpTo (long_key_reads rec.now hash (length key.now)) (S.bytes_read s.old) (S.bytes_read s.new) }
 {
     if rec.magic != USED || rec.full_hash != hash || rec.key_len as usize != key.len() {
         return Ok(false);
@@ -112,6 +115,7 @@ pub fn find<S: Space>(s: &mut S, key: &[u8]) -> Result<Option<Place>, Io>
     ensures looked { Looked S.Space s.old s.new }
     ensures cause { HasCause (S.faults s.old) (S.faults s.new) result }
     ensures bytes_read { S.bytes_read s.old ≤ S.bytes_read s.new }
+    ensures reads { IsTrue S.tells → RoseUpTo (find_reads (S.form s.old) (S.image s.old) key.now) (S.bytes_read s.old) (S.bytes_read s.new) }
 {
     let len = s.len()?;
     let hash = hash_of(s.hash(), key);
