@@ -192,6 +192,13 @@ module _ (f : Form) (old new : State) (who : ℕ) (task : Task) (turn : Turn) (S
         | inr later ↦ P.due who k (sym (not_started k later.0).1 ∙ owed)
       ]
 
+  -- and nothing is owed that somebody takes
+  owed_untaken : (k : List ℕ) → due k ≡ true → taken f s who k ≡ false
+  owed_untaken k owed = elim (cases_Bool begin) [
+    | inl e ↦ (begins_due e k owed).1
+    | inr e ↦ (P.due who k (sym (not_started k (elim begun [ inl first ↦ first.0 ∙ e | inr later ↦ later.0 ])).1 ∙ owed)).1
+  ]
+
   -- one that goes on is on its way
   pub goes_way : begin ≡ false → IsOnWay f old who shown due
   goes_way e =
@@ -263,5 +270,4 @@ module _ (f : Form) (old new : State) (who : ℕ) (task : Task) (turn : Turn) (S
             ]
 
     pub untaken : (k : List ℕ) → due k ≡ true → Taken f old who begin k → ⊥
-    untaken k owed gone = (let parts = begins_due gone.0 k owed in
-        let by = gone.1.2 in never_true (sym parts.1 ∙ task_taken gone.1.0 by.task k gone.1.1 by.has_task by.taken_out))
+    untaken k owed gone = let by = gone.2 in never_true (sym (owed_untaken k owed) ∙ task_taken gone.0 by.task k gone.1 by.has_task by.taken_out)

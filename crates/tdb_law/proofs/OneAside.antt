@@ -11,3 +11,4 @@ pub mod Committed
 pub mod Shut
 pub mod Parted
 pub mod Starting
+pub mod Passing

@@ -3,6 +3,7 @@ pub mod Sides
 pub mod Turns
 pub mod Events
 pub mod Shutting
+pub mod Passing
 pub mod Laws
 pub mod Own
 pub mod Starts

@@ -4,7 +4,8 @@ use Rattle.std.specs.Prelude.{ℕ, ◌+◌, ◌≡◌, ◌≢◌, ◌≤◌, ◌
 use Rattle.tdb_space.specs.Form.{Form}
 use Rattle.tdb_space.specs.Pairs.{home}
 use Rattle.tdb_law.specs.Commands.{Command, Reply, Turn, is_first}
-use Rattle.tdb_law.specs.Commands.Command.{OnMap}
+use Rattle.tdb_law.specs.Commands.GroupCommand.{Commit}
+use Rattle.tdb_law.specs.Commands.Command.{OnMap, OnGroup}
 use Rattle.tdb_law.specs.Commands.Reply.{End, Memory, Pair}
 use Rattle.tdb_law.specs.Commands.Turn.{Step, Blocked, Ends}
 use Rattle.tdb_law.specs.Openers.{Own, Mark, Spot, Task, seen, has}
@@ -40,17 +41,25 @@ pub record Shift (f : Form) (lost : List ℕ → Type 0) (mark later : Mark) : T
 abbrev pub Due : State → ℕ → Bool → List ℕ → Type 0
 Due old who start k = (if start then has (seen (old.own who) old.file) k else (old.mark who).ahead k) ≡ true
 
--- another opener's unfinished command takes the key out of the file
-pub record TakenBy (f : Form) (old : State) (o : ℕ) (k : List ℕ) : Type 0 where
+-- A walk that begins misses what another's command has taken out of the file. One that goes on was told of that by the
+-- turn that took it out; but the map of the file isn't that of a commit before its gate is shut, so it misses what a
+-- commit has taken out.
+abbrev pub IsMissed : Bool → Command → Type 0
+IsMissed true c = Unit {0}
+IsMissed false c = c ≡ OnGroup Commit
+
+-- another opener's unfinished command takes the key out of the file, so that a walk misses it
+pub record TakenBy (f : Form) (old : State) (start : Bool) (o : ℕ) (k : List ℕ) : Type 0 where
   pub task : Task
   pub has_task : old.task o ≡ Some task
   pub taken_out : takes f task.command (old.own o) task.steps k ≡ true
+  pub missed : IsMissed start task.command
 
 abbrev pub Taken : Form → State → ℕ → Bool → List ℕ → Type 0
-Taken f old who start k = (start ≡ true) × ((o : ℕ) × (o ≢ who) × TakenBy f old o k)
+Taken f old who start k = (o : ℕ) × (o ≢ who) × TakenBy f old start o k
 
 -- A move that doesn't begin a walk holds the chain in which it stands, and never goes back. Each key that was due is
--- the one shown, or is further on, or was taken out when the walk began.
+-- the one shown, or is further on, or was taken out when the walk began, or by a commit.
 pub record Moves (f : Form) (old new : State) (who : ℕ) (start : Bool) (key : Option (List ℕ)) : Type 0 where
   pub holds : start ≡ false → (old.mark who).inside ≡ true → (k : List ℕ) → home f k + 1 ≡ (old.mark who).reached → 1 ≤ old.table who (chain_byte f k)
   pub further : start ≡ false → (old.mark who).reached ≤ (new.mark who).reached

@@ -16,6 +16,7 @@ pub use crate::images::{image_map_answers, image_stays_accepted};
 pub use crate::layout::{chains_keep, moves_go, walks_shift};
 pub use crate::one_aside::commits::commit_shifts;
 pub use crate::one_aside::events::events_beside;
+pub use crate::one_aside::passing::moves_pass;
 pub use crate::one_aside::sides::joined_side;
 pub use crate::one_aside::starts::{starts_stand, starts_turn};
 pub use crate::one_aside::turns::{

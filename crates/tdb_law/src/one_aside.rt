@@ -2,6 +2,7 @@
 
 pub(crate) mod commits;
 pub(crate) mod events;
+pub(crate) mod passing;
 pub(crate) mod sides;
 pub(crate) mod starts;
 pub(crate) mod turns;

@@ -66,7 +66,7 @@ pub record Leaves (f : Form) (old : State) (who : ℕ) (t : Task) (turn : Turn) 
 module _ (f : Form) (p later q after : State) (who : ℕ) (t : Task) (turn : Turn) (T : Turned f p who t turn later) (A : here_of q who ≡ here_of p who) (B : here_of after who ≡ here_of later who)
     (out : (p.own who).txn ≡ None) (apart : IsApart (refusal f t.command (p.own who)) t.command) (wants : want f q who t ≡ want f p who t) (must : (q.view who).must ≡ (p.view who).must)
     (to_free : IsFree p.table who (want f p who t) → IsFree q.table who (want f p who t)) (to_conflict : (o b : ℕ) → IsFirstConflict p.table who (want f p who t) o b → IsFirstConflict q.table who (want f p who t) o b)
-    (taken_by : (o : ℕ) (k : List ℕ) → TakenBy f p o k → TakenBy f q o k) where
+    (taken_by : (start : Bool) (o : ℕ) (k : List ℕ) → TakenBy f p start o k → TakenBy f q start o k) where
   abbrev c : Command
   c = t.command
 
@@ -99,7 +99,7 @@ module _ (f : Form) (p later q after : State) (who : ℕ) (t : Task) (turn : Tur
 
   -- the walk, where the same keys are taken out by others
   to_taken : (start : Bool) (k : List ℕ) → Taken f p who start k → Taken f q who start k
-  to_taken start k taken = (taken.0, (taken.1.0, taken.1.1, taken_by taken.1.0 k taken.1.2))
+  to_taken start k taken = (taken.0, taken.1, taken_by start taken.0 k taken.2)
 
   moves_alike : (start : Bool) (key : Option (List ℕ)) → Moves f p later who start key → Moves f q after who start key
   moves_alike start key M = record {

@@ -14,7 +14,7 @@ use Rattle.tdb_law.specs.Held.{wanted, decided}
 use Rattle.tdb_law.specs.Turned.{Turned, want}
 use Rattle.tdb_law.specs.Walks.{Lost, Shift, TakenBy}
 use Rattle.tdb_law.proofs.Walking.{put_here, put_else}
-use Rattle.tdb_law.specs.OneAside.Sides.{Past, Side, everywhere, alone, beside, IsPlain, StandsAside}
+use Rattle.tdb_law.specs.OneAside.Sides.{Past, Side, heads_ahead, alone, beside, IsPlain, StandsAside}
 use Rattle.tdb_law.specs.OneAside.Turns.{IsApart, IsClear, past_after}
 use Rattle.tdb_law.specs.OneAside.Laws.{AloneTurns, BesideTurns}
 use Rattle.tdb_law.proofs.OneAside.Choices.{shift_choice, hold_choice, aside_stays}
@@ -41,7 +41,7 @@ module _ (f : Form) (p later : State) (past : Past) (who : ℕ) (t : Task) (turn
   pub alone_turned : Turned f (alone p past) who t turn (alone later past2)
   alone_turned =
       turned_alike f p later (alone p past) (alone later past2) who t turn T refl refl (P.outside who) apart refl refl (λ free. free) (λ o b conflict. conflict)
-      (λ o k taken. record { task = taken.task; has_task = taken.has_task; taken_out = taken.taken_out })
+      (λ start o k taken. record { task = taken.task; has_task = taken.has_task; taken_out = taken.taken_out; missed = taken.missed })
       (record {
         joined = T.joined;
         task = T.others;
@@ -108,7 +108,7 @@ module _ (f : Form) (p later : State) (past : Past) (s : Side) (who : ℕ) (t : 
 
   -- what the file adds to its cursor is alike, as far as it matters
   abbrev there : Bool → ℕ → View
-  there z = if z then (λ o. everywhere) else p.view
+  there z = if z then (λ o. heads_ahead s.heads (p.mark o)) else p.view
 
   its_view : q.view who ≡ there s.shuts who
   its_view = put_else (there s.shuts) s.here s.view who ne
@@ -179,13 +179,14 @@ module _ (f : Form) (p later : State) (past : Past) (s : Side) (who : ℕ) (t : 
   no_task : (u : Task) → ◌≡◌ {A = Option Task} None (Some u) → ⊥
   no_task u e = cc
 
-  taken_there : (o : ℕ) (k : List ℕ) → TakenBy f p o k → TakenBy f q o k
-  taken_there o k taken = elim (cases_eq o s.here) [
+  taken_there : (start : Bool) (o : ℕ) (k : List ℕ) → TakenBy f p start o k → TakenBy f q start o k
+  taken_there start o k taken = elim (cases_eq o s.here) [
     | inl is ↦ absurd (no_task taken.task (sym A.idle ∙ (ap p.task (sym is) ∙ taken.has_task)))
     | inr other ↦ record {
       task = taken.task;
       has_task = put_else p.task s.here s.task o other ∙ taken.has_task;
       taken_out = subst (λ x. takes f taken.task.command x taken.task.steps k ≡ true) (sym (put_else p.own s.here s.own o other)) taken.taken_out;
+      missed = taken.missed;
     }
   ]
 

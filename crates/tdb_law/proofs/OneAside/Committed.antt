@@ -40,7 +40,7 @@ live_found f img k (x ∷ xs) = elim (cases_eq (magic_of f.order img x) USED) [
     by_key false v e rest = rw (sym e) rest
 
 -- so it is in its own chain exactly where the map of the image has it
-live_mapped : (f : Form) (img k : List ℕ) (hands : List HandPair) → AcceptWith f img hands → live_in (chains_in f img (home f k)) k ≡ has (image_map f img) k
+pub live_mapped : (f : Form) (img k : List ℕ) (hands : List HandPair) → AcceptWith f img hands → live_in (chains_in f img (home f k)) k ≡ has (image_map f img) k
 live_mapped f img k hands I = live_found f img k (chain_of f img (home f k)) ∙ ap is_some (sym (image_answers f img k ∙ map_home f img k (record { some = I.some; chains = I.chains; filed = I.filed })))
 
 -- another word for what is lost

@@ -79,7 +79,7 @@ given_beside p later past (Some s) who c A ne G = (
     idle = put_else p.task s.here s.task who ne ∙ G.idle;
     task = put_else later.task s.here s.task who ne ∙ G.task;
     others = λ o other. ap (cond (o == s.here) s.task) (G.others o other);
-    rest = ap (λ w. beside w past s) G.rest;
+    rest = ap (λ w. record (beside w past s) { view = (beside p past s).view }) G.rest;
   },
 )
 

@@ -75,7 +75,7 @@ leave_ended EndWalk x is = refl
 leave_ended Close x is = refl
 
 -- what the opener keeps, where its cursor stands on no record
-kept_off : (f : Form) (x : Own) (a : Spot) (b : ℕ) → x.txn ≡ None → a.stands ≡ None → kept f x a b ≡ max (explicit_held f x b) 0
+pub kept_off : (f : Form) (x : Own) (a : Spot) (b : ℕ) → x.txn ≡ None → a.stands ≡ None → kept f x a b ≡ max (explicit_held f x b) 0
 kept_off f x a b out off = ap (λ o. kept_by f o x a b) out ∙ ap (λ o. max (explicit_held f x b) (stand_held o b)) off
 
 -- afterwards it keeps that, and after a Close nothing

@@ -6,13 +6,13 @@ use Rattle.std.proofs.lemmas.Bool.{cases_eq}
 use Rattle.tdb_space.specs.Form.{Form}
 use Rattle.tdb_law.specs.Commands.{WalkCommand, Turn}
 use Rattle.tdb_law.specs.Commands.Reply.{Done}
-use Rattle.tdb_law.specs.Openers.{Task, View}
+use Rattle.tdb_law.specs.Openers.{Mark, Task, View}
 use Rattle.tdb_law.specs.Outcomes.{own_walked}
 use Rattle.tdb_law.specs.Counting.{settled_after}
 use Rattle.tdb_law.specs.World.{State}
 use Rattle.tdb_law.specs.Turned.{Turned}
 use Rattle.tdb_law.proofs.Walking.{put_here, put_else}
-use Rattle.tdb_law.specs.OneAside.Sides.{Past, Side, but_at, everywhere, beside}
+use Rattle.tdb_law.specs.OneAside.Sides.{Past, Side, but_at, heads_ahead, beside}
 use Rattle.tdb_law.specs.OneAside.Turns.{past_after, without_task, held_after, without_cursor}
 
 -- two openers get another value in either order
@@ -40,11 +40,11 @@ module _ (past : Past) (s : Side) (shut : s.shuts ≡ true) where
   pub beside_same : (a b : State) → record a { view = b.view } ≡ b → beside a past s ≡ beside b past s
   beside_same a b same = ap (λ v. record (beside a past s) { view = but_at s.here s.view v }) unseen ∙ ap (λ w. beside w past s) same
     where
-      seen : Bool → (ℕ → View) → ℕ → View
-      seen z views = if z then (λ o. everywhere) else views
+      seen : Bool → (ℕ → Mark) → (ℕ → View) → ℕ → View
+      seen z marks views = if z then (λ o. heads_ahead s.heads (marks o)) else views
 
-      unseen : seen s.shuts a.view ≡ seen s.shuts b.view
-      unseen = ap (λ z. seen z a.view) shut ∙ sym (ap (λ z. seen z b.view) shut)
+      unseen : seen s.shuts a.mark a.view ≡ seen s.shuts (record a { view = b.view }).mark b.view
+      unseen = ap (λ z. seen z a.mark a.view) shut ∙ sym (ap (λ z. seen z a.mark b.view) shut)
 
   module _ (p : State) (who : ℕ) (ne : who ≢ s.here) where
     its_own : (beside p past s).own who ≡ p.own who

@@ -139,12 +139,12 @@ module _ (f : Form) (p later : State) (starts : ℕ → Bool) (who : ℕ) (M : M
 
   -- an opener that has another's key out of the file has a command that had a step
   taken_starts : (start : Bool) (k : List ℕ) → Taken f p who start k → Taken f (with_starts starts p) who start k
-  taken_starts start k taken = (taken.0, (taken.1.0, taken.1.1, by_other taken.1.0 taken.1.2))
+  taken_starts start k taken = (taken.0, taken.1, by_other taken.0 taken.2)
     where
-      by_other : (o : ℕ) → TakenBy f p o k → TakenBy f (with_starts starts p) o k
+      by_other : (o : ℕ) → TakenBy f p start o k → TakenBy f (with_starts starts p) start o k
       by_other o T = elim (cases_Bool (starts o)) [
         | inl e ↦ absurd (none_some T.task (sym (M.idle o e) ∙ T.has_task))
-        | inr e ↦ record { task = T.task; has_task = task_not starts p o e ∙ T.has_task; taken_out = T.taken_out }
+        | inr e ↦ record { task = T.task; has_task = task_not starts p o e ∙ T.has_task; taken_out = T.taken_out; missed = T.missed }
       ]
 
   moves_starts : (start : Bool) (key : Option (List ℕ)) → Moves f p later who start key → Moves f (with_starts starts p) (with_starts starts later) who start key

@@ -1,14 +1,14 @@
 -- The laws of a world in which one opener is aside.
-use Rattle.std.specs.Prelude.{ℕ, ◌+◌, ◌≤◌, ◌<◌, ◌^◌, List, ◌≡◌, ◌≢◌, Bool, true, false, Option, Some, None}
+use Rattle.std.specs.Prelude.{ℕ, ◌+◌, ◌*◌, ◌≤◌, ◌<◌, ◌^◌, List, ◌≡◌, ◌≢◌, Bool, true, false, Option, Some, None}
 use Rattle.tdb_space.specs.Form.{Form}
 use Rattle.tdb_space.specs.Extents.{HandPair}
 use Rattle.tdb_space.specs.Accepted.{AcceptWith}
 use Rattle.tdb_law.specs.Commands.{WalkCommand, Command, Reply, Turn}
 use Rattle.tdb_law.specs.Commands.GroupCommand.{Start, Commit}
 use Rattle.tdb_law.specs.Commands.Command.{OnGroup, OnWalk}
-use Rattle.tdb_law.specs.Commands.Reply.{Done}
+use Rattle.tdb_law.specs.Commands.Reply.{Done, End}
 use Rattle.tdb_law.specs.Commands.Turn.{Step, Blocked, Ends}
-use Rattle.tdb_law.specs.Openers.{Own, Txn, Task, has}
+use Rattle.tdb_law.specs.Openers.{Own, Txn, Task, Mark, has}
 use Rattle.tdb_law.specs.Refusals.{refusal}
 use Rattle.tdb_law.specs.Rows.{is_changed}
 use Rattle.tdb_law.specs.Ends.{waits}
@@ -22,6 +22,7 @@ use Rattle.tdb_law.specs.Events.{Joins, Dies, Given}
 use Rattle.tdb_law.specs.OneAside.Sides.{Past, Side, but_at, alone, beside, whole, IsPlain, StandsAside}
 use Rattle.tdb_law.specs.OneAside.Events.{StandsBy, IsElse}
 use Rattle.tdb_law.specs.OneAside.Shutting.{HasRecords, IsShutOut}
+use Rattle.tdb_law.specs.OneAside.Passing.{HeadsTell, IsAtMove, IsBeforeChain, IsFirstHead, with_halt, without_walk}
 use Rattle.tdb_law.specs.OneAside.Starts.{with_starts, MayStart}
 use Rattle.tdb_law.specs.OneAside.Turns.{IsApart, IsUngrouped, IsClear, past_after, EndsAtOnce, without_task, LeavesNothing, IsLeave, without_cursor}
 
@@ -100,6 +101,17 @@ abbrev pub ShutOutMeets : Type 0
 ShutOutMeets = (f : Form) (p : State) (past : Past) (s : Side) (who : ℕ) (t : Task) (byte : ℕ) → IsSound f (beside p past s) → StandsAside p s → s.shuts ≡ true → who ≢ s.here → IsUngrouped t.command
     → 168 ≤ byte → byte < 2 ^ 63 → 1 ≤ want f (beside p past s) who t byte → ((b : ℕ) → b < byte → want f (beside p past s) who t b ≡ 0)
     → IsFirstConflict (beside p past s).table who (want f (beside p past s) who t) s.here byte
+
+-- A move that is shut out passes over the chains whose heads are 0, from the one on that its walk enters next. Where no
+-- other chain is left it ends, and its walk with it,
+abbrev pub ShutOutEnds : Type 0
+ShutOutEnds = (f : Form) (p : State) (past : Past) (s : Side) (who : ℕ) (t : Task) (m : Mark) → IsSound f (beside p past s) → IsPlain p → s.shuts ≡ true → who ≢ s.here → p.task who ≡ Some t → IsAtMove f p who t
+    → HeadsTell f p.file s → ((b : ℕ) → 168 + 4 * (p.mark who).reached ≤ b → s.heads b ≡ false) → Turned f (beside p past s) who t (Ends End) (beside (without_walk p who m) past s)
+
+-- and else it is blocked before the first one, where its walk stands then.
+abbrev pub ShutOutHalts : Type 0
+ShutOutHalts = (f : Form) (p : State) (past : Past) (s : Side) (who : ℕ) (t : Task) (m : Mark) (chain : ℕ) → IsSound f (beside p past s) → IsPlain p → StandsAside p s → s.shuts ≡ true → who ≢ s.here → p.task who ≡ Some t → IsAtMove f p who t
+    → HeadsTell f p.file s → IsFirstHead f s (p.mark who).reached chain → IsBeforeChain f p.file chain m → Turned f (beside p past s) who t (Blocked s.here (168 + 4 * chain)) (beside (with_halt p who m) past s)
 
 -- Where openers that are live and have no command are given a Start, the state is as sound as it was before a step of
 -- it, also beside an opener that is aside.

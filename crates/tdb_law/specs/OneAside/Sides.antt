@@ -1,5 +1,5 @@
 -- The state of a world in two parts: a plain one, in which nobody has a transaction, and the opener aside that has one.
-use Rattle.std.specs.Prelude.{ℕ, Bool, ◌≡◌, ◌≤◌, ◌<◌, ◌^◌, ◌==◌, true, false, Option, None, if◌then◌else◌}
+use Rattle.std.specs.Prelude.{ℕ, Bool, ◌≡◌, ◌≤◌, ◌<◌, ◌+◌, ◌*◌, ◌^◌, ◌==◌, ◌&&◌, true, false, Option, None, nat_le, if◌then◌else◌}
 use Rattle.tdb_law.specs.Openers.{Own, View, Mark, Task, nowhere}
 use Rattle.tdb_law.specs.World.{State}
 
@@ -10,7 +10,8 @@ pub record Past : Type 0 where
 
 -- The opener aside: it has a transaction, or a Start, of which it has had a step. What it holds at each lock byte, its
 -- command, what it has, what the file adds to its cursor, and where its walk has come. Its cursor stands on no record.
--- It shuts the others out while it holds all records for writing.
+-- It shuts the others out while it holds all records for writing; all that they may read then is which heads of chains
+-- in the file aren't 0, as a test on the lock bytes of these chains.
 pub record Side : Type 0 where
   pub here : ℕ
   pub table : ℕ → ℕ
@@ -19,15 +20,16 @@ pub record Side : Type 0 where
   pub view : View
   pub mark : Mark
   pub shuts : Bool
+  pub heads : ℕ → Bool
 
 -- a function with another value at one opener
 abbrev pub but_at : {A : Type 0} → ℕ → A → (ℕ → A) → ℕ → A
 but_at here x g o = if o == here then x else g o
 
--- what the file adds to a cursor while the others are shut out: nothing has to be purged, and every chain is on the way
--- of a move
-abbrev pub everywhere : View
-everywhere = record { must = false; way = λ b. true }
+-- What the file adds to a cursor that is shut out: nothing has to be purged, and on the way of a move are the chains,
+-- from the one that its walk enters next on, whose heads aren't 0.
+abbrev pub heads_ahead : (ℕ → Bool) → Mark → View
+heads_ahead heads m = record { must = false; way = λ b. nat_le (168 + 4 * m.reached) b && heads b }
 
 -- the state of a world where nobody is aside
 abbrev pub alone : State → Past → State
@@ -40,7 +42,7 @@ beside p past s = record (alone p past) {
   task = but_at s.here s.task p.task;
   own = but_at s.here s.own p.own;
   spot = but_at s.here nowhere p.spot;
-  view = but_at s.here s.view (if s.shuts then (λ o. everywhere) else p.view);
+  view = but_at s.here s.view (if s.shuts then (λ o. heads_ahead s.heads (p.mark o)) else p.view);
   mark = but_at s.here s.mark p.mark;
 }
 
