@@ -12,3 +12,4 @@ pub mod Holds
 pub mod Walkers
 pub mod Spots
 pub mod Apart
+pub mod Passing

@@ -14,6 +14,7 @@ ghost use Rattle.tdb_walk.specs.NextLive.{StandsIn, IsWithin};
 ghost use Rattle.tdb_walk.specs.Way.{SameOthers, SameLocks};
 ghost use Rattle.tdb_walk.specs.ByteLocks.{HoldsWords, only_reads};
 ghost use Rattle.tdb_walk.specs.Cursors.{rested, IsPlaced, spot_of, dead_of, HasToPurge, Knows, let_go, held_moved, held_locked, LockLed, LeaveLed, Came, WentTo, MoveLed, StepTaken, StepMade, StepStops, shown_after};
+ghost use Rattle.tdb_walk.specs.Passing.{enters};
 ghost use Rattle.tdb_locks.specs.declared.turn.Reply.TheVariants.{Memory};
 ghost use Rattle.tdb_locks.specs.declared.turn.Turn.TheVariants.{Done};
 ghost use Rattle.tdb_walk.specs.declared.standing.Standing.TheVariants.{Before, Past};
@@ -68,6 +69,26 @@ impl Cursor {
         Cursor {
             place: Standing::Past,
             stage: Stage::Rested,
+        }
+    }
+
+    /// A cursor before a chain. It holds nothing and takes no memory.
+    pub(crate) fn before(chain: u32) -> Cursor
+        ensures { result ≡ rested (Before chain) }
+    {
+        Cursor {
+            place: Standing::Before(chain),
+            stage: Stage::Rested,
+        }
+    }
+
+    /// The number of the chain that it enters next, where it stands on no record.
+    pub(crate) fn enters(&self) -> u32
+        ensures { result ≡ enters self.now.place }
+    {
+        match self.place {
+            Standing::Before(chain) => chain,
+            Standing::On(..) | Standing::Past => 0,
         }
     }
 

@@ -8,6 +8,7 @@ mod live;
 mod locking;
 mod looking;
 mod pair;
+mod passing;
 mod purging;
 mod records;
 mod refusal;
