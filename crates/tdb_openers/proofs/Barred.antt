@@ -3,3 +3,4 @@ pub mod Meeting
 pub mod ShutOut
 pub mod ShutTurns
 pub mod ShutWorlds
+pub mod Passing

@@ -15,6 +15,7 @@ mod locking;
 mod numbering;
 mod opener;
 mod openers;
+mod passing;
 mod plain;
 mod refusing;
 mod shut_out;

@@ -3,7 +3,7 @@
 ghost use Rattle.std.specs.Prelude.{◌≡◌, ◌≢◌, ◌<◌, ◌≤◌, ◌+◌, ◌++◌, ◌∷◌, [], ℕ, List, length, IsTrue, MatchBool, IfSome, IfNone, IfOk, IfErr, OnOk, OnErr, None, false, ◌-◌, ◌↔◌, slice_get};
 ghost use Rattle.tdb_disk.specs.Count.{HasCause};
 ghost use Rattle.tdb_space.specs.Form.{form_in};
-ghost use Rattle.tdb_space.specs.Frame.{Wrote};
+ghost use Rattle.tdb_space.specs.Frame.{Looked, Wrote};
 ghost use Rattle.tdb_space.specs.Spare.{without_bound};
 ghost use Rattle.tdb_space.specs.Accepted.{AcceptWith};
 ghost use Rattle.tdb_law.specs.World.{HasFewChains};
@@ -11,6 +11,7 @@ ghost use Rattle.tdb_law.specs.Beginning.{IsLoaded};
 ghost use Rattle.tdb_law.specs.Events.{Joins, Given};
 ghost use Rattle.tdb_law.specs.Turned.{Turned};
 ghost use Rattle.tdb_steps.specs.Room.{FullAtTake};
+ghost use Rattle.tdb_walk.specs.Cursors.{spot_of};
 ghost use Rattle.tdb_openers.specs.Openers.{own_of, command_in};
 ghost use Rattle.tdb_openers.specs.Died.{HasDied};
 ghost use Rattle.tdb_commands.specs.InLaw.{law_opener, law_command, law_turn, options_of};
@@ -22,7 +23,7 @@ ghost use Rattle.tdb_openers.specs.Aside.{IsBare, HoldsRecords, AreFree, AreBarr
 ghost use Rattle.tdb_openers.specs.Given.{IsBeginning, IsShortLocking, IsWellHeld};
 ghost use Rattle.tdb_openers.specs.declared.job.Job.TheVariants as Jobs;
 ghost use Rattle.tdb_openers.specs.declared.job.Locking.{Locking};
-ghost use Rattle.tdb_openers.specs.ShutOut.{IsReplaced, JobMeets, MayMeet, opener_after};
+ghost use Rattle.tdb_openers.specs.ShutOut.{IsPassed, IsReplaced, JobMeets, MayMeet, opener_after};
 ghost use Rattle.tdb_openers.specs.Laws.{other_hands};
 ghost use Rattle.tdb_openers.specs.Stopped.{JobStopped};
 ghost use Rattle.tdb_openers.specs.Worlds.{fresh, state_in, law_of_task, Stands, BytesStand, IsNumber, IsFree, IsBusy, IsAssigned};
@@ -413,6 +414,22 @@ impl Openers {
             unreachable!();
         };
         opener.turn_shut_out(*alloc, header, holder)
+    }
+
+    /// Takes a turn of the opener's command, which moves its cursor, while the opener `holder` holds all records for
+    /// writing.
+    pub(crate) fn pass<S: Space>(&mut self, s: &mut S, who: u32, holder: u32) -> Result<Turn, Io>
+        requires there { (x : Opener) × IsNumber self.old who x }
+        requires off { (x : Opener) → IsNumber self.old who x → spot_of x.walk.cursor.place ≡ None }
+        ensures passed { IfOk result (λ turn. (x : Opener) → IsNumber self.old who x → IsPassed (IsTrue S.tells) (S.form s.old) (S.image s.old) (S.size s.old) self.old who holder x self.new turn) }
+        ensures stays { OnErr result (self.new ≡ self.old) }
+        ensures looked { Looked S.Space s.old s.new }
+        ensures cause { HasCause (S.faults s.old) (S.faults s.new) result }
+    {
+        let Some(opener) = self.list.get_mut(who as usize - 1) else {
+            unreachable!();
+        };
+        opener.move_shut_out(s, holder)
     }
 
     /// Takes its command from the opener with this number.

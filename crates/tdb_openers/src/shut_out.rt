@@ -1,4 +1,5 @@
-// Turns of openers while another one holds all records for writing, so that nobody else may look at the file.
+// Turns of openers while another one holds all records for writing, so that nobody else may look at a record. Moves of
+// cursors, which look at the heads of the chains, are apart.
 
 ghost use Rattle.std.specs.Prelude.{◌≡◌, ◌≢◌, ◌<◌, ℕ, List, length, IfNone, IfSome, MatchBool, None, Some, slice_get};
 ghost use Rattle.tdb_space.specs.Form.{form_in};
@@ -17,7 +18,7 @@ ghost use Rattle.tdb_openers.specs.declared.job.Task.{Task};
 ghost use Rattle.tdb_openers.specs.declared.opener.Opener.{Opener};
 ghost use Rattle.tdb_openers.specs.Given.{IsShortLocking};
 ghost use Rattle.tdb_openers.specs.Openers.{command_in};
-ghost use Rattle.tdb_openers.specs.ShutOut.{HoldsAll, ShutsOut, IsTurnBeside, LockingMeets, WalkMeets, JobMeets, MayMeet, after_job, opener_after};
+ghost use Rattle.tdb_openers.specs.ShutOut.{HoldsAll, ShutsOut, IsTurnBeside, LockingMeets, WalkMeets, JobMeets, MayMeet, IsMove, after_job, opener_after};
 ghost use Rattle.tdb_openers.specs.Worlds.{state_in, law_of_task, Stands, BytesStand, IsBusy};
 
 use crate::ending::refused_turn;
@@ -32,7 +33,7 @@ use tdb_steps::Region;
 use tdb_words::Header;
 
 /// The turn of a command that waits for a region of the records, all of which `holder` holds.
-fn waits_for(region: Region, holder: u32) -> Turn
+pub(crate) fn waits_for(region: Region, holder: u32) -> Turn
     ensures { result ≡ Turn.Blocked holder (start_of region) }
 {
     Turn::Blocked {
@@ -62,12 +63,14 @@ impl Locking {
 }
 
 impl Walking {
-    /// The turn of a command on a cursor that stands on no record, while `holder` holds all records for writing.
-    fn turn_shut_out(self, holder: u32) -> Turn
-        ensures { WalkMeets self holder result }
+    /// The turn of a command by which a cursor that stands on no record ends, while another opener holds all records
+    /// for writing.
+    fn turn_shut_out(self) -> Turn
+        requires ends { MayMeet (Jobs.Walk self) }
+        ensures { WalkMeets self result }
     {
         match self {
-            Walking::First | Walking::Next => waits_for(Region::AllRecords, holder),
+            Walking::First | Walking::Next => unreachable!(),
             Walking::EndWalk | Walking::Close => Turn::Done(Reply::Ok),
         }
     }
@@ -90,7 +93,7 @@ impl Job {
             Job::Check(_) => waits_for(Region::AllRecords, holder),
             Job::Locking(locking) => locking.turn_shut_out(header, holder),
             Job::Seqnum => unreachable!(),
-            Job::Walk(walking) => walking.turn_shut_out(holder),
+            Job::Walk(walking) => walking.turn_shut_out(),
         }
     }
 }
@@ -146,18 +149,20 @@ impl Openers {
         )
     }
 
-    /// Takes one turn of the opener's command while the opener `holder`, which is aside with its transaction, holds all
-    /// records for writing: nobody else reads the file then, so no call is made on it. None where the command asks for
-    /// the sequence number, which is the caller's to read: then nothing has changed.
+    /// Takes one turn of the opener's command, which isn't a First or a Next that moves a cursor, while the opener
+    /// `holder`, which is aside with its transaction, holds all records for writing: such a command doesn't read the
+    /// file then, so no call is made on it. None where the command asks for the sequence number, which is the caller's
+    /// to read: then nothing has changed.
     ///
     /// A command that wants records is blocked by `holder` at the first byte that it wants: that of its chain, or 168,
-    /// the first of all chains, where it locks all records or moves a cursor. A chain lock that doesn't wait is told
-    /// that it is busy there. A refused command is told so, and an EndWalk or a Close is done at once, since no cursor
-    /// stands on a record. It takes no memory.
+    /// the first of all chains, where it locks all records. A chain lock that doesn't wait is told that it is busy
+    /// there. A refused command is told so, and an EndWalk or a Close is done at once, since no cursor stands on a
+    /// record. It takes no memory.
     ///
     /// Cost: for a lock of a chain a hash of its key.
     pub fn turn_shut_out(&mut self, who: u32, holder: u32) -> Option<Turn>
         requires busy { (x : Opener) × (t : Task) × IsBusy self.old who x t }
+        requires still { (x : Opener) (t : Task) → IsBusy self.old who x t → IsMove t.job → ⊥ }
         requires other { holder ≢ who }
         requires stands { (img : List ℕ) × (size : ℕ) × Stands self.old img size }
         requires shut { HoldsAll self.old holder }

@@ -23,11 +23,11 @@ locking_stays f Locks.All holder M = cc
 locking_stays f Locks.AllRead holder M = cc
 locking_stays f Locks.UnlockAll holder M = M
 
-walk_stays : (walking : Walking) (holder : ℕ) → WalkMeets walking holder Step → ⊥
-walk_stays Walks.First holder M = cc
-walk_stays Walks.Next holder M = cc
-walk_stays Walks.EndWalk holder M = cc
-walk_stays Walks.Close holder M = cc
+walk_stays : (walking : Walking) → WalkMeets walking Step → ⊥
+walk_stays Walks.First M = M
+walk_stays Walks.Next M = M
+walk_stays Walks.EndWalk M = cc
+walk_stays Walks.Close M = cc
 
 job_stays : (f : Form) (job : Job) (holder : ℕ) → JobMeets f job holder Step → ⊥
 job_stays f (Jobs.Refused command reply) holder M = cc
@@ -35,7 +35,7 @@ job_stays f (Jobs.Plain d) holder M = cc
 job_stays f (Jobs.Check checking) holder M = cc
 job_stays f (Jobs.Locking locking) holder M = locking_stays f locking holder M
 job_stays f Jobs.Seqnum holder M = M
-job_stays f (Jobs.Walk walking) holder M = walk_stays walking holder M
+job_stays f (Jobs.Walk walking) holder M = walk_stays walking M
 
 -- so one that isn't blocked is the end of its job
 pub ends_job : (f : Form) (job : Job) (holder : ℕ) (turn : Turn) (x : Opener) → JobMeets f job holder turn → (turn ≡ Step) ⊎ ((reply : Reply) × (turn ≡ Done reply)) → after_job job x ≡ opener_after turn job x

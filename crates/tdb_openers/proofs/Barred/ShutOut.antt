@@ -17,7 +17,7 @@ use Rattle.tdb_law.specs.Held.{all_held, stand_held, kept, held}
 use Rattle.tdb_law.specs.World.{State, HasFewChains}
 use Rattle.tdb_law.proofs.Covered.{none_held}
 use Rattle.tdb_law.proofs.Walking.{put_else}
-use Rattle.tdb_law.specs.OneAside.Sides.{Past, Side, everywhere, beside}
+use Rattle.tdb_law.specs.OneAside.Sides.{Past, Side, heads_ahead, beside}
 use Rattle.tdb_law.specs.OneAside.Shutting.{IsShutOut}
 use Rattle.tdb_law.proofs.OneAside.Shut.{others_shut_out}
 use Rattle.tdb_commands.specs.InLaw.{law_opener}
@@ -28,10 +28,11 @@ use Rattle.tdb_openers.specs.declared.opener.Opener.{Opener}
 use Rattle.tdb_openers.specs.declared.job.Job.{Job}
 use Rattle.tdb_openers.specs.declared.job.Job.TheVariants as Jobs
 use Rattle.tdb_openers.specs.declared.job.Locking.TheVariants as Locks
+use Rattle.tdb_openers.specs.declared.job.Walking.TheVariants as Walks
 use Rattle.tdb_openers.specs.declared.job.Task.{Task}
 use Rattle.tdb_openers.specs.Given.{IsShortLocking, unlock_told}
 use Rattle.tdb_openers.specs.Openers.{rest_of, own_of, spot_by, walk_in, command_in, all_of}
-use Rattle.tdb_openers.specs.ShutOut.{ShutsOut, MayMeet}
+use Rattle.tdb_openers.specs.ShutOut.{ShutsOut, MayMeet, IsMove}
 use Rattle.tdb_openers.specs.Turning.{law_table}
 use Rattle.tdb_openers.specs.Worlds.{World, state_in, law_of_task, Stands, IsBusy}
 use Rattle.tdb_openers.proofs.ExplicitLocks.Beside.{all_past, below_bare}
@@ -80,8 +81,10 @@ module _ {w : World} {img : List ℕ} {past : Past} {s : Side} {holder who : ℕ
   pub its_task : q.task l ≡ Some (law_of_task t)
   its_task = put_else p.task s.here s.task l apart ∙ task_here C.busy img
 
-  pub its_view : q.view l ≡ everywhere
-  its_view = put_else (if s.shuts then (λ o. everywhere) else p.view) s.here s.view l apart ∙ ap (λ z. (if z then (λ (o : ℕ). everywhere) else p.view) l) C.shuts.shuts
+  pub its_view : q.view l ≡ heads_ahead s.heads (p.mark l)
+  its_view =
+      put_else (if s.shuts then (λ o. heads_ahead s.heads (p.mark o)) else p.view) s.here s.view l apart
+      ∙ ap (λ z. (if z then (λ (o : ℕ). heads_ahead s.heads (p.mark o)) else p.view) l) C.shuts.shuts
 
   -- it stands in the world as one without records
   shut : IsShutOut f p l
@@ -111,7 +114,7 @@ module _ {w : World} {img : List ℕ} {past : Past} {s : Side} {holder who : ℕ
   kept_none b from below = let none = shut.holds b from below in let whole = holds C.busy C.stands b in omega (arith, none, whole)
 
   -- nor anything else
-  keeps_none : (b : ℕ) → kept f own spot b ≡ 0
+  pub keeps_none : (b : ℕ) → kept f own spot b ≡ 0
   keeps_none b = elim (cases_lt b 168) [
     | inl low ↦ below_bare f few w.options x.live x.held (rest_of x.walk) (stands C.busy C.stands).0.counts (walk_well f x.held own (walk_in t.job) t.steps x.walk.cursor (cursor_at C.busy C.stands t.job refl)) b low
     | inr from ↦ elim (cases_lt b (2 ^ 63)) [
@@ -148,24 +151,27 @@ module _ {w : World} {img : List ℕ} {past : Past} {s : Side} {holder who : ℕ
       omega (arith, two, none)
 
   -- its command is no unlock that isn't refused
-  pub may_meet : (j : Job) → t.job ≡ j → (j ≡ Jobs.Seqnum → ⊥) → MayMeet j
-  may_meet (Jobs.Refused command reply) is ne = tt
-  may_meet (Jobs.Plain d) is ne = tt
-  may_meet (Jobs.Check checking) is ne = tt
-  may_meet (Jobs.Locking (Locks.Chain key)) is ne = tt
-  may_meet (Jobs.Locking (Locks.ChainNb key)) is ne = tt
-  may_meet (Jobs.Locking (Locks.Unchain key)) is ne =
+  pub may_meet : (j : Job) → t.job ≡ j → (j ≡ Jobs.Seqnum → ⊥) → (IsMove j → ⊥) → MayMeet j
+  may_meet (Jobs.Refused command reply) is ne still = tt
+  may_meet (Jobs.Plain d) is ne still = tt
+  may_meet (Jobs.Check checking) is ne still = tt
+  may_meet (Jobs.Locking (Locks.Chain key)) is ne still = tt
+  may_meet (Jobs.Locking (Locks.ChainNb key)) is ne still = tt
+  may_meet (Jobs.Locking (Locks.Unchain key)) is ne still =
       let J = job_at C.busy C.stands _ is in
       no_count key (unchain_granted f w.options x.live x.held (rest_of x.walk) (stands C.busy C.stands).0.counts key J.1)
-  may_meet (Jobs.Locking Locks.All) is ne = tt
-  may_meet (Jobs.Locking Locks.AllRead) is ne = tt
-  may_meet (Jobs.Locking Locks.UnlockAll) is ne =
+  may_meet (Jobs.Locking Locks.All) is ne still = tt
+  may_meet (Jobs.Locking Locks.AllRead) is ne still = tt
+  may_meet (Jobs.Locking Locks.UnlockAll) is ne still =
       let J = job_at C.busy C.stands _ is in
       let untold = unlock_all_granted f w.options x.live x.held (rest_of x.walk) (stands C.busy C.stands).0.counts J.1 in
       let bad = ap (unlock_told x.held (is_some x.walk.shown)) (sym (no_all x.held.all refl)) ∙ untold in
       cc bad
-  may_meet Jobs.Seqnum is ne = absurd (ne refl)
-  may_meet (Jobs.Walk walking) is ne = tt
+  may_meet Jobs.Seqnum is ne still = absurd (ne refl)
+  may_meet (Jobs.Walk Walks.First) is ne still = still tt
+  may_meet (Jobs.Walk Walks.Next) is ne still = still tt
+  may_meet (Jobs.Walk Walks.EndWalk) is ne still = tt
+  may_meet (Jobs.Walk Walks.Close) is ne still = tt
 
   pub short_lock : (locking : _) → t.job ≡ Jobs.Locking locking → IsShortLocking locking
   short_lock locking is = (job_at C.busy C.stands (Jobs.Locking locking) is).2

@@ -1,6 +1,5 @@
 -- The turns of an opener that is shut out are turns of the law in the whole state.
 use Rattle.std.proofs.Common.{◌≡◌, ℕ, ◌+◌, ◌*◌, ◌≤◌, List, true, false, Some, None, refl, sym, ◌∙◌, ap, subst, inl, inr, arith}
-use Rattle.std.specs.Prelude.{◌&&◌, if◌then◌else◌}
 use Rattle.tdb_space.specs.Form.{Form, form_in}
 use Rattle.tdb_space.specs.Pairs.{home}
 use Rattle.tdb_locks.specs.HeldLocks.{HeldLocks}
@@ -13,15 +12,15 @@ use Rattle.tdb_law.specs.Commands.Command.{OnMap, OnLocks, OnWalk}
 use Rattle.tdb_law.specs.Commands.WalkCommand.{First, Next, EndWalk, Close}
 use Rattle.tdb_law.specs.Openers.{Own, Spot, Task as LawTask, View}
 use Rattle.tdb_law.specs.Refusals.{refusal, says}
-use Rattle.tdb_law.specs.Rows.{walk_locks, locks, is_changed}
+use Rattle.tdb_law.specs.Rows.{is_changed}
 use Rattle.tdb_law.specs.Ends.{waits}
-use Rattle.tdb_law.specs.Outcomes.{moves, moves_by, walk_moves, own_refused}
-use Rattle.tdb_law.specs.Held.{wanted, decided, locked_next, moves_at}
+use Rattle.tdb_law.specs.Outcomes.{walk_moves, own_refused}
+use Rattle.tdb_law.specs.Held.{wanted, decided}
 use Rattle.tdb_law.specs.World.{State}
 use Rattle.tdb_law.specs.Effects.{IsFirstConflict}
 use Rattle.tdb_law.specs.Turned.{Turned, want}
 use Rattle.tdb_law.proofs.Emptied.{unchanged_start}
-use Rattle.tdb_law.specs.OneAside.Sides.{Past, Side, but_at, everywhere, beside}
+use Rattle.tdb_law.specs.OneAside.Sides.{Past, Side, but_at, heads_ahead, beside}
 use Rattle.tdb_law.specs.OneAside.Turns.{IsUngrouped, EndsAtOnce, LeavesNothing, IsLeave, without_task, without_cursor}
 use Rattle.tdb_law.specs.OneAside.Turns.EndsAtOnce.{ends_refused, ends_busy, ends_past}
 use Rattle.tdb_law.proofs.OneAside.Idle.{waiting_is_turned, end_is_turned}
@@ -37,9 +36,9 @@ use Rattle.tdb_walk.specs.declared.standing.Standing.{Standing}
 use Rattle.tdb_walk.specs.declared.standing.Standing.TheVariants.{Before, On, Past as PastChains}
 use Rattle.tdb_walk.specs.declared.stage.Stage.{Stage}
 use Rattle.tdb_walk.specs.Cursors.{spot_of}
-use Rattle.tdb_walk.specs.InLaw.{StandsAfter, spot_in, is_before}
+use Rattle.tdb_walk.specs.InLaw.{StandsAfter, is_before}
 use Rattle.tdb_walk.specs.Again.{RestsAt}
-use Rattle.tdb_walk.proofs.Holding.{granted, locks_are}
+use Rattle.tdb_walk.proofs.Holding.{granted}
 use Rattle.tdb_walk.proofs.Rows.{unchanged}
 use Rattle.tdb_openers.specs.declared.opener.Opener.{Opener}
 use Rattle.tdb_openers.specs.declared.job.Job.{Job}
@@ -57,7 +56,7 @@ use Rattle.tdb_openers.proofs.Joining.Begun.{begun_stage}
 use Rattle.tdb_openers.proofs.Joining.Endings.{refused_same}
 use Rattle.tdb_openers.proofs.Joining.Occupied.{job_at, cursor_at, near_at}
 use Rattle.tdb_openers.proofs.Barred.ShutOut.{IsBarred, apart, its_own, its_spot, its_task, its_view, few, stands_on_none, map_new}
-use Rattle.tdb_openers.proofs.ExplicitLocks.Wanting.{FirstAt, plain_first, check_first, chain_first, busy_first, all_first, all_read_first, move_first}
+use Rattle.tdb_openers.proofs.ExplicitLocks.Wanting.{FirstAt, plain_first, check_first, chain_first, busy_first, all_first, all_read_first}
 
 -- the whole state after such a turn of a job: as it was where the turn is blocked, and else without the command; after
 -- a Close its opener has ended
@@ -79,31 +78,6 @@ leave_ended f held x w (On chain off) stage n still off_records S = absurd (cc o
 leave_ended f held x w (Before chain) stage n still off_records (rested, inl moved) = absurd (let bad : false ≡ true = sym still ∙ moved.1 in cc bad)
 leave_ended f held x w (Before chain) stage n still off_records (rested, inr new) = absurd (let bad : true ≡ false = new.0 in cc bad)
 leave_ended f held x w PastChains stage n still off_records (rested, none, near, new, asked) = record { rests = (none, rested); none = none; past = refl; new = new }
-
--- A move of a cursor that stands on no record has no lock to take, and moves at once.
-abbrev IsMoving : Form → Own → WalkCommand → Spot → ℕ → Type 0
-IsMoving f x w a n = (moves_at f (OnWalk w) x (decided a everywhere n) n ≡ true) × ((b : ℕ) → (if a.gone then 0 else locked_next (locks f (OnWalk w) x (decided a everywhere n).purging) n b) ≡ 0)
-
-first_of : (w : WalkCommand) (x : Own) → walk_moves w x ≡ true → (w ≡ Next → ⊥) → First ≡ w
-first_of First x moving ne = refl
-first_of Next x moving ne = absurd (ne refl)
-first_of EndWalk x moving ne = absurd (cc moving)
-first_of Close x moving ne = absurd (cc moving)
-
-module _ (f : Form) (x : Own) (out : x.txn ≡ None) where
-  moves_is : (w : WalkCommand) → walk_moves w x ≡ true → moves f (OnWalk w) x ≡ true
-  moves_is w moving = ap (λ q. moves_by q (OnWalk w) x) (granted f w x out) ∙ moving
-
-  first_moving : x.cursor ≡ None → (stage : Stage) → IsMoving f x First (spot_in (record { place = PastChains; stage = stage }) false) 0
-  first_moving none stage = (ap (λ z. z && true) (moves_is First refl), λ b. ap (λ ls. locked_next ls 0 b) (locks_are f First x false out ∙ ap (λ o. walk_locks f First o false) none))
-
-  is_moving : (held : HeldLocks) (w : WalkCommand) (place : Standing) (stage : Stage) (n : ℕ) → walk_moves w x ≡ true → spot_of place ≡ None → StandsAfter f held x w place stage (is_before place) n
-      → IsMoving f x w (spot_in (record { place = place; stage = stage }) (is_before place)) n
-  is_moving held w (On chain off) stage n moving off_records S = absurd (cc off_records)
-  is_moving held w (Before chain) stage n moving off_records S = (ap (λ z. z && true) (moves_is w moving), λ b. refl)
-  is_moving held w PastChains stage n moving off_records (rested, none, near, new, asked) =
-      subst (IsMoving f x w (spot_in (record { place = PastChains; stage = stage }) false)) (sym new)
-      (subst (λ u. IsMoving f x u (spot_in (record { place = PastChains; stage = stage }) false) 0) (first_of w x moving asked) (first_moving none stage))
 
 module _ {w : World} {img : List ℕ} {past : Past} {s : Side} {holder who : ℕ} {x : Opener} {t : Task} {any : List ℕ} {size : ℕ} (C : IsBarred w img past s holder who x t any size) where
   abbrev f : Form
@@ -127,9 +101,12 @@ module _ {w : World} {img : List ℕ} {past : Past} {s : Side} {holder who : ℕ
   here_is : law_opener holder ≡ s.here
   here_is = let counted = C.shuts.counted in omega (arith, counted)
 
-  -- what a command wants in the whole state, where every chain is on the way of a move
+  -- what a command wants in the whole state
+  abbrev view : View
+  view = heads_ahead s.heads ((state_in w img).mark l)
+
   abbrev Wants : Command → ℕ → ℕ → ℕ
-  Wants c n b = wanted f c own (decided spot everywhere n) everywhere n b
+  Wants c n b = wanted f c own (decided spot view n) view n b
 
   abbrev asked : Command → ℕ → LawTask
   asked c n = record { command = c; steps = n }
@@ -200,7 +177,7 @@ module _ {w : World} {img : List ℕ} {past : Past} {s : Side} {holder who : ℕ
       let new = map_new C (command_of d.command) (ap command_in is) J.granted in
       let begun = subst (λ n. IsAfter d.command d.stage n) new J.after in
       let F = subst (λ chain. FirstAt (Wants (OnMap (command_of d.command)) 0) (start_of (rows_of d.command chain).first.region)) (sym J.chain)
-      (plain_first f (few C) own refl spot d.command J.granted (subst (λ z. IsAfter d.command z 0) (begun_stage d.command d.stage begun) begun)) in
+      (plain_first f (few C) own refl spot view d.command J.granted (subst (λ z. IsAfter d.command z 0) (begun_stage d.command d.stage begun) begun)) in
       blocked_so (Jobs.Plain d) (start_of (rows_of d.command d.chain).first.region) turn M
       (blocked (OnMap (command_of d.command)) 0 (start_of (rows_of d.command d.chain).first.region) (same_task (Jobs.Plain d) 0 is new) tt refl (unchanged_start f (OnMap (command_of d.command)) own) F)
 
@@ -209,25 +186,25 @@ module _ {w : World} {img : List ℕ} {past : Past} {s : Side} {holder who : ℕ
       let J = job_at C.busy C.stands (Jobs.Locking (Locks.Chain key)) is in
       let c = OnLocks (locking_command (Locks.Chain key)) in
       blocked_so (Jobs.Locking (Locks.Chain key)) (168 + 4 * home f key) turn M
-      (blocked c 0 (168 + 4 * home f key) (same_task (Jobs.Locking (Locks.Chain key)) 0 is J.0) tt refl (unchanged_start f c own) (chain_first f (few C) own refl spot key J.1))
+      (blocked c 0 (168 + 4 * home f key) (same_task (Jobs.Locking (Locks.Chain key)) 0 is J.0) tt refl (unchanged_start f c own) (chain_first f (few C) own refl spot view key J.1))
   locking_turned (Locks.ChainNb key) turn is M =
       let J = job_at C.busy C.stands (Jobs.Locking (Locks.ChainNb key)) is in
       let c = OnLocks (locking_command (Locks.ChainNb key)) in
       ended_so (Jobs.Locking (Locks.ChainNb key)) (Reply.Busy holder (168 + 4 * home f key)) turn M
       (ended c (Law.Reply.Busy (law_opener holder) (168 + 4 * home f key)) (same_task (Jobs.Locking (Locks.ChainNb key)) 0 is J.0) (near_at C.busy C.stands (Jobs.Locking (Locks.ChainNb key)) is refl)
       (ends_busy key s.here (168 + 4 * home f key) refl (subst (λ z. refusal f c z ≡ None) (sym (its_own C)) J.1)
-      (conflict c 0 (168 + 4 * home f key) tt (busy_first f (few C) own refl spot key J.1)) (ap (λ o. Law.Reply.Busy o (168 + 4 * home f key)) here_is)))
+      (conflict c 0 (168 + 4 * home f key) tt (busy_first f (few C) own refl spot view key J.1)) (ap (λ o. Law.Reply.Busy o (168 + 4 * home f key)) here_is)))
   locking_turned (Locks.Unchain key) turn is M = absurd M
   locking_turned Locks.All turn is M =
       let J = job_at C.busy C.stands (Jobs.Locking Locks.All) is in
       let c = OnLocks (locking_command Locks.All) in
       blocked_so (Jobs.Locking Locks.All) 168 turn M
-      (blocked c 0 168 (same_task (Jobs.Locking Locks.All) 0 is J.0) tt refl (unchanged_start f c own) (all_first f (few C) own refl spot J.1))
+      (blocked c 0 168 (same_task (Jobs.Locking Locks.All) 0 is J.0) tt refl (unchanged_start f c own) (all_first f (few C) own refl spot view J.1))
   locking_turned Locks.AllRead turn is M =
       let J = job_at C.busy C.stands (Jobs.Locking Locks.AllRead) is in
       let c = OnLocks (locking_command Locks.AllRead) in
       blocked_so (Jobs.Locking Locks.AllRead) 168 turn M
-      (blocked c 0 168 (same_task (Jobs.Locking Locks.AllRead) 0 is J.0) tt refl (unchanged_start f c own) (all_read_first f (few C) own refl spot J.1))
+      (blocked c 0 168 (same_task (Jobs.Locking Locks.AllRead) 0 is J.0) tt refl (unchanged_start f c own) (all_read_first f (few C) own refl spot view J.1))
   locking_turned Locks.UnlockAll turn is M = absurd M
 
   -- a cursor stands on no record
@@ -238,13 +215,6 @@ module _ {w : World} {img : List ℕ} {past : Past} {s : Side} {holder who : ℕ
     off : spot_of x.walk.cursor.place ≡ None
     off = stands_on_none C
 
-    move_turned : (turn : Turn) → walk_moves (walk_command walking) own ≡ true → turn ≡ Blocked holder 168 → Turned f q l lt (law_turn turn) (state_after (law_turn turn) (Jobs.Walk walking) q l)
-    move_turned turn moving M =
-        let c = OnWalk (walk_command walking) in
-        let go = is_moving f own refl x.held (walk_command walking) x.walk.cursor.place x.walk.cursor.stage t.steps moving off its_stand in
-        blocked_so (Jobs.Walk walking) 168 turn M
-        (blocked c t.steps 168 (same_task (Jobs.Walk walking) t.steps is refl) tt refl (unchanged f (walk_command walking) own refl t.steps) (move_first f (few C) own refl spot (walk_command walking) t.steps go.0 go.1))
-
     pub cursor_ended : walk_moves (walk_command walking) own ≡ false → Ended f own x.walk.cursor.place x.walk.cursor.stage t.steps
     cursor_ended still = leave_ended f x.held own (walk_command walking) x.walk.cursor.place x.walk.cursor.stage t.steps still off its_stand
 
@@ -253,9 +223,9 @@ module _ {w : World} {img : List ℕ} {past : Past} {s : Side} {holder who : ℕ
         let E = cursor_ended still in
         left (walk_command walking) (same_task (Jobs.Walk walking) 0 is E.new) (subst (Ended f own x.walk.cursor.place x.walk.cursor.stage) E.new E) leaves
 
-  walk_turned : (walking : Walking) (turn : Turn) → t.job ≡ Jobs.Walk walking → WalkMeets walking holder turn → Turned f q l lt (law_turn turn) (state_after (law_turn turn) (Jobs.Walk walking) q l)
-  walk_turned Walks.First turn is M = move_turned Walks.First is turn refl M
-  walk_turned Walks.Next turn is M = move_turned Walks.Next is turn (job_at C.busy C.stands (Jobs.Walk Walks.Next) is).1 M
+  walk_turned : (walking : Walking) (turn : Turn) → t.job ≡ Jobs.Walk walking → WalkMeets walking turn → Turned f q l lt (law_turn turn) (state_after (law_turn turn) (Jobs.Walk walking) q l)
+  walk_turned Walks.First turn is M = absurd M
+  walk_turned Walks.Next turn is M = absurd M
   walk_turned Walks.EndWalk turn is M = ended_so (Jobs.Walk Walks.EndWalk) Reply.Ok turn M (subst (Turned f q l lt (Law.Turn.Ends Law.Reply.Done)) (no_cursor_left (cursor_ended Walks.EndWalk is refl).none) (leave_turned Walks.EndWalk is refl tt))
   walk_turned Walks.Close turn is M = ended_so (Jobs.Walk Walks.Close) Reply.Ok turn M (leave_turned Walks.Close is refl tt)
 
@@ -269,7 +239,7 @@ module _ {w : World} {img : List ℕ} {past : Past} {s : Side} {holder who : ℕ
       let J = job_at C.busy C.stands (Jobs.Check checking) is in
       let new = map_new C Law.MapCommand.Check (ap command_in is) J.0 in
       blocked_so (Jobs.Check checking) 168 turn M
-      (blocked (OnMap Law.MapCommand.Check) 0 168 (same_task (Jobs.Check checking) 0 is new) tt refl (unchanged_start f (OnMap Law.MapCommand.Check) own) (check_first f (few C) own refl spot J.0))
+      (blocked (OnMap Law.MapCommand.Check) 0 168 (same_task (Jobs.Check checking) 0 is new) tt refl (unchanged_start f (OnMap Law.MapCommand.Check) own) (check_first f (few C) own refl spot view J.0))
   turned (Jobs.Locking locking) turn is M = locking_turned locking turn is M
   turned Jobs.Seqnum turn is M = absurd M
   turned (Jobs.Walk walking) turn is M = walk_turned walking turn is M

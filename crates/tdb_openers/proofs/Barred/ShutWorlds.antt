@@ -65,8 +65,8 @@ module _ {w : World} {img : List ℕ} {past : Past} {s : Side} {holder who : ℕ
   ends_rest (Jobs.Check checking) reply is M = absurd (cc M)
   ends_rest (Jobs.Locking locking) reply is M = rests_by C.busy C.stands (Jobs.Locking locking) is refl (job_at C.busy C.stands (Jobs.Locking locking) is).0 refl
   ends_rest Jobs.Seqnum reply is M = absurd M
-  ends_rest (Jobs.Walk Walks.First) reply is M = absurd (cc M)
-  ends_rest (Jobs.Walk Walks.Next) reply is M = absurd (cc M)
+  ends_rest (Jobs.Walk Walks.First) reply is M = absurd M
+  ends_rest (Jobs.Walk Walks.Next) reply is M = absurd M
   ends_rest (Jobs.Walk Walks.EndWalk) reply is M = rests_ended Walks.EndWalk is refl
   ends_rest (Jobs.Walk Walks.Close) reply is M = rests_ended Walks.Close is refl
 
@@ -76,7 +76,7 @@ module _ {w : World} {img : List ℕ} {past : Past} {s : Side} {holder who : ℕ
     later = state_in (record w { openers = ys }) img
 
     -- who is aside stands so still, where another opener takes the place of this one
-    aside_still : (y : Opener) → IsPut w.openers l y ys → StandsAside later s
+    pub aside_still : (y : Opener) → IsPut w.openers l y ys → StandsAside later s
     aside_still y P = aside_stays p later s C.shuts.aside (let same = P.same_length in omega (arith, same)) (ap task_at (P.others s.here (λ e. apart C (sym e)))) (ap spot_at (P.others s.here (λ e. apart C (sym e)))) (λ b. refl)
 
     -- it is this one, but for what the file adds to cursors

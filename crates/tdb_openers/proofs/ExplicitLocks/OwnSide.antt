@@ -6,7 +6,7 @@ use Rattle.tdb_law.specs.Openers.{nowhere}
 use Rattle.tdb_law.specs.Held.{all_held}
 use Rattle.tdb_law.specs.World.{State, IsSound}
 use Rattle.tdb_law.proofs.Tests.{never_true}
-use Rattle.tdb_law.specs.OneAside.Sides.{Past, Side, everywhere, beside, StandsAside}
+use Rattle.tdb_law.specs.OneAside.Sides.{Past, Side, beside, StandsAside}
 use Rattle.tdb_law.proofs.OneAside.Parted.{put_back}
 use Rattle.tdb_commands.specs.InLaw.{law_opener}
 use Rattle.tdb_openers.specs.declared.opener.Opener.{Opener}
@@ -47,7 +47,7 @@ module _ (w : World) (holder : ℕ) (H : HoldsAll w holder) (any : List ℕ) (si
 
   -- what the plain state has of it
   abbrev pub own_side : Side
-  own_side = record { here = l; table = p.table l; task = p.task l; own = p.own l; view = everywhere; mark = p.mark l; shuts = true }
+  own_side = record { here = l; table = p.table l; task = p.task l; own = p.own l; view = p.view l; mark = p.mark l; shuts = true; heads = λ b. false }
 
   abbrev q : State
   q = beside p no_past own_side

@@ -1,22 +1,21 @@
 -- The first byte that a command wants at its next turn, where it has locked nothing yet and its cursor stands on no
 -- record.
-use Rattle.std.proofs.Common.{◌≡◌, ℕ, ◌+◌, ◌*◌, ◌<◌, ◌≤◌, ◌^◌, max, List, [], Bool, true, false, None, nat_lt, nat_le, is_none, refl, sym, ◌∙◌, ap, arith, le_refl}
-use Rattle.std.specs.Prelude.{◌&&◌, if◌then◌else◌}
-use Rattle.std.proofs.lemmas.Bool.{lt-leb, lt-ltb}
-use Rattle.tdb_space.specs.Form.{Form, data_start}
+use Rattle.std.proofs.Common.{◌≡◌, ℕ, ◌+◌, ◌*◌, ◌<◌, ◌≤◌, ◌^◌, max, List, [], true, false, None, nat_le, is_none, refl, sym, ◌∙◌, ap, arith, le_refl}
+use Rattle.std.specs.Prelude.{if◌then◌else◌}
+use Rattle.std.proofs.lemmas.Bool.{lt-leb}
+use Rattle.tdb_space.specs.Form.{Form}
 use Rattle.tdb_space.specs.Pairs.{home}
 use Rattle.tdb_space.proofs.Pairs.Maps.{home_below}
 use Rattle.tdb_locks.specs.declared.kind.Kind.{Kind}
 use Rattle.tdb_locks.specs.declared.kind.Kind.TheVariants.{Read, Write}
-use Rattle.tdb_law.specs.Commands.{MapCommand, LockCommand, WalkCommand}
+use Rattle.tdb_law.specs.Commands.{MapCommand, LockCommand}
 use Rattle.tdb_law.specs.Commands.MapCommand.{Check}
 use Rattle.tdb_law.specs.Commands.LockCommand.{ChainLock, ChainLockNb, LockAll, LockAllRead}
-use Rattle.tdb_law.specs.Commands.Command.{OnMap, OnLocks, OnWalk}
+use Rattle.tdb_law.specs.Commands.Command.{OnMap, OnLocks}
 use Rattle.tdb_law.specs.Openers.{Own, Spot, View}
 use Rattle.tdb_law.specs.Refusals.{refusal}
-use Rattle.tdb_law.specs.Rows.{map_locks, lock_locks, locks_by, locks}
-use Rattle.tdb_law.specs.Outcomes.{moves}
-use Rattle.tdb_law.specs.Held.{is_chain, covers, locked_next, moves_at, wanted, decided}
+use Rattle.tdb_law.specs.Rows.{map_locks, lock_locks, locks_by}
+use Rattle.tdb_law.specs.Held.{covers, locked_next, wanted, decided}
 use Rattle.tdb_law.specs.World.{HasFewChains}
 use Rattle.tdb_law.proofs.Locks.{covers_within}
 use Rattle.tdb_steps.specs.LockRows.{start_of, end_of, strength_of, lock_of, rows_of}
@@ -28,7 +27,6 @@ use Rattle.tdb_steps.specs.declared.rows.LockRow.{LockRow}
 use Rattle.tdb_steps.specs.declared.stage.Stage.TheVariants.{Begun}
 use Rattle.tdb_steps.proofs.Holdings.{want}
 use Rattle.tdb_steps.proofs.Turning.{row_facts}
-use Rattle.tdb_law.specs.OneAside.Sides.{everywhere}
 use Rattle.tdb_openers.specs.Checked.{all_lock}
 use Rattle.tdb_openers.specs.Locked.{chain_row, all_row}
 use Rattle.tdb_openers.proofs.ExplicitLocks.Effected.{wants_locks}
@@ -55,25 +53,25 @@ row_first r wants from below reaches is = record {
   first = λ b before. is b ∙ (let off : nat_le (start_of r.region) b ≡ false = lt-leb (start_of r.region) b before in rw off refl);
 }
 
-module _ (f : Form) (few : HasFewChains f) (x : Own) (out : x.txn ≡ None) (a : Spot) where
+module _ (f : Form) (few : HasFewChains f) (x : Own) (out : x.txn ≡ None) (a : Spot) (v : View) where
   -- the byte of a chain
   chain_far : (chain : ℕ) → chain < f.chains → 168 + 4 * chain < 2 ^ 63
   chain_far chain low = omega (arith, low, few.few)
 
   -- a command on the map wants the first lock of its row
   module _ (c : MapCommand) (granted : refusal f (OnMap c) x ≡ None) where
-    map_wants : (v : View) (b : ℕ) → wanted f (OnMap c) x (decided a v 0) v 0 b ≡ locked_next (map_locks f c) 0 b
+    map_wants : (b : ℕ) → wanted f (OnMap c) x (decided a v 0) v 0 b ≡ locked_next (map_locks f c) 0 b
     unfolding wanted
-    map_wants v b =
+    map_wants b =
         ap (λ q. max (locked_next (locks_by f q (OnMap c) x (decided a v 0).purging) 0 b) 0) granted
         ∙ (ap (λ o. max (locked_next (if is_none o then map_locks f c else []) 0 b) 0) out ∙ omega arith)
 
     pub map_first : (r : LockRow) → 168 ≤ start_of r.region → start_of r.region < 2 ^ 63 → start_of r.region < end_of r.region → ((b : ℕ) → locked_next (map_locks f c) 0 b ≡ want r b)
-        → FirstAt (wanted f (OnMap c) x (decided a everywhere 0) everywhere 0) (start_of r.region)
-    map_first r from below reaches is = row_first r (wanted f (OnMap c) x (decided a everywhere 0) everywhere 0) from below reaches (λ b. map_wants everywhere b ∙ is b)
+        → FirstAt (wanted f (OnMap c) x (decided a v 0) v 0) (start_of r.region)
+    map_first r from below reaches is = row_first r (wanted f (OnMap c) x (decided a v 0) v 0) from below reaches (λ b. map_wants b ∙ is b)
 
   pub plain_first : (command : Plain) → refusal f (OnMap (command_of command)) x ≡ None → IsAfter command Begun 0
-      → FirstAt (wanted f (OnMap (command_of command)) x (decided a everywhere 0) everywhere 0) (start_of (rows_of command (home f (key_of command))).first.region)
+      → FirstAt (wanted f (OnMap (command_of command)) x (decided a v 0) v 0) (start_of (rows_of command (home f (key_of command))).first.region)
   plain_first command granted begun =
       let place = region_place command in
       map_first (command_of command) granted (rows_of command (home f (key_of command))).first place.0 place.1 place.2
@@ -90,45 +88,24 @@ module _ (f : Form) (few : HasFewChains f) (x : Own) (out : x.txn ≡ None) (a :
       region_place (Delete key) = place_at key
       region_place Wipe = (omega arith, omega arith, omega arith)
 
-  pub check_first : refusal f (OnMap Check) x ≡ None → FirstAt (wanted f (OnMap Check) x (decided a everywhere 0) everywhere 0) 168
+  pub check_first : refusal f (OnMap Check) x ≡ None → FirstAt (wanted f (OnMap Check) x (decided a v 0) v 0) 168
   check_first granted = map_first Check granted all_lock (omega arith) (omega arith) (omega arith) (λ b. omega arith)
 
   -- a command on explicit locks wants its lock
   lock_first : (c : LockCommand) (r : LockRow) → refusal f (OnLocks c) x ≡ None → 168 ≤ start_of r.region → start_of r.region < 2 ^ 63 → start_of r.region < end_of r.region → ((b : ℕ) → locked_next (lock_locks f c) 0 b ≡ want r b)
-      → FirstAt (wanted f (OnLocks c) x (decided a everywhere 0) everywhere 0) (start_of r.region)
+      → FirstAt (wanted f (OnLocks c) x (decided a v 0) v 0) (start_of r.region)
   lock_first c r granted from below reaches is =
-      row_first r (wanted f (OnLocks c) x (decided a everywhere 0) everywhere 0) from below reaches
-      (λ b. wants_locks f x c granted a everywhere b ∙ (ap (λ o. locked_next (if is_none o then lock_locks f c else []) 0 b) out ∙ is b))
+      row_first r (wanted f (OnLocks c) x (decided a v 0) v 0) from below reaches
+      (λ b. wants_locks f x c granted a v b ∙ (ap (λ o. locked_next (if is_none o then lock_locks f c else []) 0 b) out ∙ is b))
 
-  pub chain_first : (key : List ℕ) → refusal f (OnLocks (ChainLock key)) x ≡ None → FirstAt (wanted f (OnLocks (ChainLock key)) x (decided a everywhere 0) everywhere 0) (168 + 4 * home f key)
+  pub chain_first : (key : List ℕ) → refusal f (OnLocks (ChainLock key)) x ≡ None → FirstAt (wanted f (OnLocks (ChainLock key)) x (decided a v 0) v 0) (168 + 4 * home f key)
   chain_first key granted = lock_first (ChainLock key) (chain_row (home f key)) granted (omega arith) (chain_far (home f key) (home_below f key few.some)) (omega arith) (λ b. omega arith)
 
-  pub busy_first : (key : List ℕ) → refusal f (OnLocks (ChainLockNb key)) x ≡ None → FirstAt (wanted f (OnLocks (ChainLockNb key)) x (decided a everywhere 0) everywhere 0) (168 + 4 * home f key)
+  pub busy_first : (key : List ℕ) → refusal f (OnLocks (ChainLockNb key)) x ≡ None → FirstAt (wanted f (OnLocks (ChainLockNb key)) x (decided a v 0) v 0) (168 + 4 * home f key)
   busy_first key granted = lock_first (ChainLockNb key) (chain_row (home f key)) granted (omega arith) (chain_far (home f key) (home_below f key few.some)) (omega arith) (λ b. omega arith)
 
-  pub all_first : refusal f (OnLocks LockAll) x ≡ None → FirstAt (wanted f (OnLocks LockAll) x (decided a everywhere 0) everywhere 0) 168
+  pub all_first : refusal f (OnLocks LockAll) x ≡ None → FirstAt (wanted f (OnLocks LockAll) x (decided a v 0) v 0) 168
   all_first granted = lock_first LockAll (all_row Write) granted (omega arith) (omega arith) (omega arith) (λ b. omega arith)
 
-  pub all_read_first : refusal f (OnLocks LockAllRead) x ≡ None → FirstAt (wanted f (OnLocks LockAllRead) x (decided a everywhere 0) everywhere 0) 168
+  pub all_read_first : refusal f (OnLocks LockAllRead) x ≡ None → FirstAt (wanted f (OnLocks LockAllRead) x (decided a v 0) v 0) 168
   all_read_first granted = lock_first LockAllRead (all_row Read) granted (omega arith) (omega arith) (omega arith) (λ b. omega arith)
-
-  -- a move whose command has no lock to take wants to read every chain, of which there is one at least
-  pub move_first : (w : WalkCommand) (n : ℕ) → moves_at f (OnWalk w) x (decided a everywhere n) n ≡ true → ((b : ℕ) → (if a.gone then 0 else locked_next (locks f (OnWalk w) x (decided a everywhere n).purging) n b) ≡ 0)
-      → FirstAt (wanted f (OnWalk w) x (decided a everywhere n) everywhere n) 168
-  unfolding wanted
-  move_first w n moves none = record {
-    from = omega arith;
-    below = omega arith;
-    some = (let way : is_chain f 168 ≡ true = lt-ltb 168 (data_start f) (omega (arith, few.some)) in
-        let reads : reading 168 ≡ 1 = way_read 168 true way in
-        omega (arith, reads));
-    first = λ b before. (let way : is_chain f b ≡ false = ap (λ z. z && nat_lt b (data_start f)) (lt-leb 168 b before) in
-        let reads : reading b ≡ 0 = way_read b false way in
-        omega (arith, none b, reads));
-  }
-    where
-      reading : ℕ → ℕ
-      reading b = if moves_at f (OnWalk w) x (decided a everywhere n) n && (is_none x.txn && (is_chain f b && true)) then 1 else 0
-
-      way_read : (b : ℕ) (z : Bool) → is_chain f b ≡ z → reading b ≡ (if z && true then 1 else 0)
-      way_read b z way = λ i. if moves i && (is_none (out i) && (way i && true)) then 1 else 0

@@ -1,5 +1,5 @@
 -- An opener in a list of openers, by its number.
-use Rattle.std.proofs.Common.{◌≡◌, ◌≢◌, ℕ, zero, suc, ◌+◌, ◌-◌, ◌<◌, List, [], ◌∷◌, length, slice_get, slice_index_or, slice_set, Some, refl, sym, ◌∙◌, ap, subst, arith}
+use Rattle.std.proofs.Common.{◌≡◌, ◌≢◌, ℕ, zero, suc, ◌+◌, ◌-◌, ◌<◌, List, [], ◌∷◌, length, slice_get, slice_index_or, slice_set, None, Some, refl, sym, ◌∙◌, ap, subst, arith}
 use Rattle.std.proofs.lemmas.List.{length-set, length-map}
 use Rattle.std.proofs.Math.Seq.{map-set_same}
 use Rattle.std.proofs.lemmas.Option.{get_or_from_slice_get, slice_get_within}
@@ -11,6 +11,9 @@ use Rattle.tdb_commands.specs.InLaw.{law_opener, law_command}
 use Rattle.tdb_commands.specs.declared.options.Options.{Options}
 use Rattle.tdb_openers.specs.declared.opener.Opener.{Opener}
 use Rattle.tdb_openers.specs.declared.job.Job.{Job}
+use Rattle.tdb_walk.specs.declared.standing.Standing.{Standing}
+use Rattle.tdb_walk.specs.declared.standing.Standing.TheVariants.{Before, On, Past}
+use Rattle.tdb_walk.specs.Cursors.{spot_of}
 use Rattle.tdb_walk.specs.Spots.{spot_number}
 use Rattle.tdb_openers.specs.Openers.{own_of, spots_of, command_in, JobStands}
 use Rattle.tdb_openers.specs.declared.job.Task.{Task}
@@ -76,9 +79,18 @@ assigned header options xs table who c size x d job F item command stands =
 pub seen_so : {v w new : World} {who size : ℕ} {c : Command} {x : Opener} → v ≡ w → (IsFree v who x → IsAssigned v who x c size new) → IsFree w who x → IsAssigned w who x c size new
 seen_so {new = new} {who = who} {size = size} {c = c} {x = x} e given F = subst (λ z. IsAssigned z who x c size new) e (given (subst (λ z. IsFree z who x) (sym e) F))
 
--- the entries in the list of spots stay where another opener with the same cursor is put
+-- the entries in the list of spots stay where another opener is put whose cursor stands on the same record, or on none
+-- as before
+pub spots_alike : (xs : List Opener) (i : ℕ) (d y : Opener) → d ≡ slice_index_or xs i d → spot_number y.walk.cursor.place ≡ spot_number d.walk.cursor.place → spots_of (slice_set xs i y) ≡ spots_of xs
+spots_alike xs i d y item same = map-set_same (λ (z : Opener). spot_number z.walk.cursor.place) xs i y d (same ∙ ap (λ (z : Opener). spot_number z.walk.cursor.place) item)
+
 pub spots_still : (xs : List Opener) (i : ℕ) (d y : Opener) → d ≡ slice_index_or xs i d → y.walk ≡ d.walk → spots_of (slice_set xs i y) ≡ spots_of xs
-spots_still xs i d y item still = map-set_same (λ (z : Opener). spot_number z.walk.cursor.place) xs i y d (ap (λ w. spot_number w.cursor.place) still ∙ ap (λ (z : Opener). spot_number z.walk.cursor.place) item)
+spots_still xs i d y item still = spots_alike xs i d y item (ap (λ w. spot_number w.cursor.place) still)
+
+pub off_number : (at : Standing) → spot_of at ≡ None → spot_number at ≡ 0
+off_number (On chain off) none = absurd (cc none)
+off_number (Before chain) none = refl
+off_number Past none = refl
 
 -- who stands at the place of a number has it
 pub has_number : (w : World) (who : ℕ) (d : Opener) → 0 < who → who - 1 < length w.openers → d ≡ slice_index_or w.openers (who - 1) d → IsNumber w who d

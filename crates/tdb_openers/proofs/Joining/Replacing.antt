@@ -112,7 +112,7 @@ module _ (xs ys : List Opener) (who : ℕ) (x y : Opener) (found : slice_get xs 
   pub same_at : {A : Type 0} (g : Option Opener → A) → g (Some y) ≡ g (Some x) → (o : ℕ) → g (slice_get ys o) ≡ g (slice_get xs o)
   same_at g same = at_each xs ys who y set (λ o z. g z ≡ g (slice_get xs o)) (same ∙ sym (ap g found)) (λ o ne. refl)
 
-  other_at : {A : Type 0} (g : Option Opener → A) (o : ℕ) → g (slice_get ys o) ≡ but_at who (g (Some y)) (λ p. g (slice_get xs p)) o
+  pub other_at : {A : Type 0} (g : Option Opener → A) (o : ℕ) → g (slice_get ys o) ≡ but_at who (g (Some y)) (λ p. g (slice_get xs p)) o
   other_at g = at_each xs ys who y set (λ o z. g z ≡ but_at who (g (Some y)) (λ p. g (slice_get xs p)) o) (sym (put_here (λ p. g (slice_get xs p)) who (g (Some y)) who refl)) (λ o ne. sym (put_else (λ p. g (slice_get xs p)) who (g (Some y)) o ne))
 
   -- where it holds what is held for it, the world stands, whatever the bytes of its file are

@@ -27,8 +27,8 @@ never_steps f (Jobs.Locking Locks.All) holder M = cc M
 never_steps f (Jobs.Locking Locks.AllRead) holder M = cc M
 never_steps f (Jobs.Locking Locks.UnlockAll) holder M = M
 never_steps f Jobs.Seqnum holder M = M
-never_steps f (Jobs.Walk Walks.First) holder M = cc M
-never_steps f (Jobs.Walk Walks.Next) holder M = cc M
+never_steps f (Jobs.Walk Walks.First) holder M = M
+never_steps f (Jobs.Walk Walks.Next) holder M = M
 never_steps f (Jobs.Walk Walks.EndWalk) holder M = cc M
 never_steps f (Jobs.Walk Walks.Close) holder M = cc M
 
@@ -48,7 +48,7 @@ meet-requires-clause-short c x t locking B is =
 pub meet-requires-clause-meets : goal.meet-requires-clause-meets
 meet-requires-clause-meets c x t B =
     let C = own_barred c.requires.shut c.requires.other B c.requires.stands.2 in
-    may_meet C t.job refl (subst (λ z. MatchBool z (t.job ≡ Jobs.Seqnum) (t.job ≢ Jobs.Seqnum)) c.if-asks_number.false (c.asks_number.ensures x t B))
+    may_meet C t.job refl (subst (λ z. MatchBool z (t.job ≡ Jobs.Seqnum) (t.job ≢ Jobs.Seqnum)) c.if-asks_number.false (c.asks_number.ensures x t B)) (c.requires.still x t B)
 
 pub returns-clause-turned : goal.returns-clause-turned
 returns-clause-turned c img past s x t B O =
