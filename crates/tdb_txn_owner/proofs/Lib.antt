@@ -22,6 +22,7 @@ pub mod Room
 pub mod Synced
 pub mod Sided
 pub mod ReadAs
+pub mod HeadsTold
 pub mod Filed
 pub mod Committed
 pub mod Readied

@@ -16,7 +16,7 @@ use Rattle.tdb_law.specs.Effects.Stays.{stands_nowhere}
 use Rattle.tdb_law.specs.Turned.{Turned, number_next, want}
 use Rattle.tdb_law.specs.Walks.{Lost, Shift}
 use Rattle.tdb_txn_turns.proofs.InsideTxn.Inside.{same_either}
-use Rattle.tdb_law.specs.OneAside.Sides.{Past, Side, alone, beside, but_at, everywhere}
+use Rattle.tdb_law.specs.OneAside.Sides.{Past, Side, alone, beside, but_at, heads_ahead}
 use Rattle.tdb_law.specs.OneAside.Own.{OwnTurned, side_wants}
 use Rattle.tdb_txn_owner.specs.Lifts.{Shows, ShownTurns, OthersKeep, IsBack, BesideTurns, BesideEnds, BesideBegins}
 
@@ -122,7 +122,7 @@ beside_shows p past s = record {
 }
 
 beside_view : (p : State) (past : Past) (s : Side) → (beside p past s).view s.here ≡ s.view
-beside_view p past s = but_here s.here s.view (if s.shuts then (λ o. everywhere) else p.view)
+beside_view p past s = but_here s.here s.view (if s.shuts then (λ o. heads_ahead s.heads (p.mark o)) else p.view)
 
 alone_shows : (p : State) (past : Past) (s : Side) → IsBack p s → Shows (alone p past) past s
 alone_shows p past s B = record {

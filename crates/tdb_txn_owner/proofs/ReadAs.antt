@@ -42,7 +42,7 @@ use Rattle.tdb_txn_turns.proofs.Carried.{ready_rests}
 use Rattle.tdb_txn_owner.specs.Reads.{IsReadAs}
 
 -- images with the same map, at each key, are the same as maps
-maps_alike : (f g : Form) (a b : List ℕ) → ((key : List ℕ) → map_of f a key ≡ map_of g b key) → image_map f a ≡ image_map g b
+pub maps_alike : (f g : Form) (a b : List ℕ) → ((key : List ℕ) → map_of f a key ≡ map_of g b key) → image_map f a ≡ image_map g b
 maps_alike f g a b same = maps_equal (image_map f a) (image_map g b) (λ key. image_answers f a key ∙ same key ∙ sym (image_answers g b key))
 
 -- an image that opens to the map of another one, by its own form
@@ -53,7 +53,7 @@ module _ (r c : List ℕ) (R : Reopens r c) where
   pub restored_form : form_of img ≡ form_of c
   restored_form = elim R.again [ inl shut ↦ ap form_of (read_as_it_is (form_of c) c shut) | inr mild ↦ form_kept c img mild.header ]
 
-  own_map_read : image_map (form_of c) img ≡ image_map (form_of r) r
+  pub own_map_read : image_map (form_of c) img ≡ image_map (form_of r) r
   own_map_read = maps_alike (form_of c) (form_of r) img r (λ key. ap (λ g. map_of g img key) (sym restored_form) ∙ R.opens.holds key)
 
   own_number_read : number_of (form_of c) img ≡ number_of (form_of r) r

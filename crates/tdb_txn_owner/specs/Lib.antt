@@ -8,6 +8,7 @@ pub mod Stages
 pub mod Turned
 pub mod Wents
 pub mod Reads
+pub mod Heads
 pub mod Prepared
 pub mod Wanting
 pub mod Holders

@@ -5,6 +5,7 @@ mod committing;
 mod dying;
 mod ends;
 mod finishing;
+mod heads;
 mod inside;
 mod lifts;
 mod open_txn;
@@ -20,6 +21,7 @@ mod waits;
 mod wanting;
 
 pub use crate::ends::{ends_are_own, inside_is_own, machines_are_own};
+pub use crate::heads::heads_are_there;
 pub use crate::lifts::side_turns;
 pub use crate::reads::files_are_read;
 pub use crate::txn_owner::{Moved, TxnOwner};
