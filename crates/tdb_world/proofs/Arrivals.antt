@@ -129,6 +129,7 @@ module _ (w : Whole) (any : List ℕ) (size : ℕ) (few : length w.openers.opene
     accepted = A.accepted;
     others = λ e. seen_stays img (A.others e);
     number = A.number;
+    heads = A.heads;
   }
 
   abbrev before : List ℕ → State

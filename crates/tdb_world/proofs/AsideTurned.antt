@@ -34,9 +34,9 @@ use Rattle.tdb_world.proofs.OthersKept.{OneChanges, others_keep, walk_keeps}
 -- The opener stays aside.
 module _ (f : Form) (o : Options) (options : Options) (xs ys : List Opener) (ps qs : List Piece) (owner : ℕ) (rs : List Piece) (before after : Stage) (h new : History)
     (k : Known) (past : Past) (s : Side) (t : Task) (turn : Turn)
-    (T : StageTurned f o (beside (state_of f options xs ps k.file) past s).table owner rs before (Some after) h new k past s t turn) (O : OneChanges xs ys ps qs s.here) (shuts : Bool) where
+    (T : StageTurned f o (beside (state_of f options xs ps k.file) past s).table owner rs before (Some after) h new k past s t turn) (O : OneChanges xs ys ps qs s.here) (shuts : Bool) (heads : ℕ → Bool) where
   abbrev side_then : Side
-  side_then = record T.side { shuts = shuts }
+  side_then = record T.side { shuts = shuts; heads = heads }
 
   own_stays : OwnTurned f (beside (state_of f options xs ps k.file) past s).table (image_map f k.file) (image_map f T.known.file) (number_of f k.file) (number_of f T.known.file) past T.later s side_then t turn
   own_stays = record {

@@ -59,6 +59,7 @@ module _ (w : Whole) (old new : HolderState) (is : w.aside ≡ Some old) (S : Ho
     accepted = λ some. A.accepted (ap is_some (sym records) ∙ some);
     others = λ reads. (let B = A.others (ap writes_all (sym records) ∙ reads) in record { image = B.image; bytes = B.bytes });
     number = λ writes. A.number (ap writes_all (sym records) ∙ writes);
+    heads = λ writes. A.heads (ap writes_all (sym records) ∙ writes);
   }
 
   side_still : (h : History) (img : List ℕ) (past : Past) (side : Option Side) → SideIs w (Some old) h img past side → SideIs later (Some new) h img past side

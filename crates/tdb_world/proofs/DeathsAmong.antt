@@ -145,6 +145,7 @@ module _ (w : Whole) (who : ℕ) (named : 1 ≤ who) (among : IsAmong w who) (ne
       accepted = A.accepted;
       others = λ none. seen_stays img (A.others none);
       number = A.number;
+      heads = A.heads;
     }
 
     module _ (S : IsWholeState w h state) where

@@ -139,6 +139,7 @@ module _ (w : Whole) (ys : List Opener) (ss : List Bool) (h : History) where
     accepted = A.accepted;
     others = λ e. seen_moves bytes img (A.others e);
     number = A.number;
+    heads = A.heads;
   }
 
 among_moved : (w : Whole) (ys : List Opener) (ss : List Bool) (who : ℕ) → IsAmong w who → IsAmong (record w { openers = record w.openers { openers = ys }; starts = ss }) who
@@ -511,6 +512,7 @@ module _ (w : Whole) (h : HolderState) (e : w.aside ≡ Some h) (c : Asked) wher
       accepted = λ some. A.accepted (ap is_some (sym records) ∙ some);
       others = λ reads. (let B = A.others (ap writes_all (sym records) ∙ reads) in record { image = B.image; bytes = B.bytes });
       number = λ writes. A.number (ap writes_all (sym records) ∙ writes);
+      heads = λ writes. A.heads (ap writes_all (sym records) ∙ writes);
     }
 
     gives : (img : List ℕ) (past : Past) (s : Side) → IsAside w h hist img past s → Given (whole (state_in w.openers img) past (Some s)) m (law_command c) (whole (state_in w.openers img) past (Some (side_then s)))

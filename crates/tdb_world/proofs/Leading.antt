@@ -41,6 +41,7 @@ use Rattle.tdb_txn_owner.specs.declared.stage.Stage.TheVariants as At
 use Rattle.tdb_txn_owner.specs.declared.wanting.Wants.{Wants}
 use Rattle.tdb_txn_owner.proofs.Wanted.{wanted_law}
 use Rattle.tdb_openers.specs.Openers.{place_at, spot_at}
+use Rattle.tdb_openers.specs.ShutOut.{heads_in}
 use Rattle.tdb_openers.specs.Worlds.{state_in, BytesStand, IsNumber, Stands}
 use Rattle.tdb_openers.specs.declared.opener.Opener.{Opener}
 use Rattle.tdb_openers.proofs.ExplicitLocks.Aside.{one_number}
@@ -67,6 +68,7 @@ pub record IsAt (w : Whole) (h : HolderState) (history : History) (k : Known) (p
   pub accepted : is_some (stage_records h.stage) ≡ true → AcceptWith (form_at w) k.file []
   pub others : writes_all (stage_records h.stage) ≡ false → IsSeen w history k.file
   pub number : writes_all (stage_records h.stage) ≡ true → s.table 48 ≡ 0 → w.number ≡ number_of (form_at w) k.file
+  pub heads : writes_all (stage_records h.stage) ≡ true → s.heads ≡ heads_in (form_at w) (seen history)
 
 pub at_known : (w : Whole) (h : HolderState) (history : History) (img : List ℕ) (past : Past) (s : Side) (A : IsAside w h history img past s) → IsAt w h history A.known past s
 at_known w h history img past s A = record {
@@ -77,20 +79,21 @@ at_known w h history img past s A = record {
   accepted = λ e. subst (λ i. AcceptWith (form_at w) i []) A.image (A.accepted e);
   others = λ e. subst (IsSeen w history) A.image (A.others e);
   number = λ e free. A.number e free ∙ ap (number_of (form_at w)) A.image;
+  heads = A.heads;
 }
 
 pub of_known : (w : Whole) (h : HolderState) (history : History) (k : Known) (past : Past) (s : Side) → IsAt w h history k past s → IsAside w h history k.file past s
 of_known w h history k past s A =
-    record { known = k; image = refl; side = A.side; file = A.file; records = A.records; shuts = A.shuts; accepted = A.accepted; others = A.others; number = A.number }
+    record { known = k; image = refl; side = A.side; file = A.file; records = A.records; shuts = A.shuts; accepted = A.accepted; others = A.others; number = A.number; heads = A.heads }
 
--- who shuts the others out is no matter to the mark of a walk
-shut_mark : (f : Form) (k : Known) (stage : Stage) (s : Side) (shuts : Bool) → MarkIs f k stage s → MarkIs f k stage (record s { shuts = shuts })
-shut_mark f k (At.Starting st) s shuts M = M
-shut_mark f k (At.Open txn command) s shuts M = M
-shut_mark f k (At.Committing c) s shuts M = M
-shut_mark f k (At.Preparing p) s shuts M = M
-shut_mark f k (At.Prepared left command) s shuts M = M
-shut_mark f k (At.Finishing c) s shuts M = M
+-- who shuts the others out, and what they may read then, is no matter to the mark of a walk
+shut_mark : (f : Form) (k : Known) (stage : Stage) (s : Side) (shuts : Bool) (heads : ℕ → Bool) → MarkIs f k stage s → MarkIs f k stage (record s { shuts = shuts; heads = heads })
+shut_mark f k (At.Starting st) s shuts heads M = M
+shut_mark f k (At.Open txn command) s shuts heads M = M
+shut_mark f k (At.Committing c) s shuts heads M = M
+shut_mark f k (At.Preparing p) s shuts heads M = M
+shut_mark f k (At.Prepared left command) s shuts heads M = M
+shut_mark f k (At.Finishing c) s shuts heads M = M
 
 -- a cursor that stands on no record
 off_place : (at : Standing) → spot_of at ≡ None → IsOffRecords (place_of at)
@@ -177,7 +180,7 @@ module _ (w : Whole) (h : HolderState) (any : List ℕ) (size : ℕ) (F : WorldF
     module _ (new : History) (turn : TurnIs) (unblocked : IsBlocked (law_turn turn) → ⊥) (rs : List Piece) (later : Stage)
         (T : StageTurned f o before.table h.owner rs h.stage (Some later) old new k past s t (law_turn turn)) (go : stage_records later ≡ records_after h.stage turn) where
       abbrev Z : Side
-      Z = record T.side { shuts = writes_all (stage_records later) }
+      Z = record T.side { shuts = writes_all (stage_records later); heads = heads_in f (seen new) }
 
       held_after : stage_records later ≡ records_with wants (stage_records h.stage)
       held_after = go ∙ not_blocked turn wants (stage_records h.stage) unblocked
@@ -278,7 +281,7 @@ module _ (w : Whole) (h : HolderState) (any : List ℕ) (size : ℕ) (F : WorldF
             options = T.left.options;
             own = T.left.own;
             numbers = T.left.numbers;
-            mark = shut_mark f T.known later T.side (writes_all (stage_records later)) T.left.mark;
+            mark = shut_mark f T.known later T.side (writes_all (stage_records later)) (heads_in f (seen new)) T.left.mark;
           };
           file = file_after;
           records = λ x N. ap (λ (z : Opener). z.held.all) (one_number (with_list w.openers ys qs) h.owner x C.opener N C.number) ∙ all_after;
@@ -286,11 +289,12 @@ module _ (w : Whole) (h : HolderState) (any : List ℕ) (size : ℕ) (F : WorldF
           accepted = accepted_after;
           others = λ none. let both = seen_after none in record { image = both.0; bytes = C.bytes T.known.file (subst (λ i. BytesStand w.openers i) (sym both.1) (A.others (not_before none)).bytes) };
           number = number_after;
+          heads = λ e. refl;
         }
 
         turned : Turned f before s.here t (law_turn turn) (beside (state_in (with_list w.openers ys qs) T.known.file) T.later Z)
         turned =
-            stays_turned f o o w.openers.openers ys w.openers.table qs h.owner rs h.stage later old new k past s t (law_turn turn) T one (writes_all (stage_records later))
+            stays_turned f o o w.openers.openers ys w.openers.table qs h.owner rs h.stage later old new k past s t (law_turn turn) T one (writes_all (stage_records later)) (heads_in f (seen new))
             (λ q ne. elim to [ inl same ↦ inl same | inr made ↦ inr (off_records made.0 q) ])
 
         module _ (S : IsSound f before) (fresh_world : w.stale ≡ false) where

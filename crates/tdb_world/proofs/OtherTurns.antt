@@ -1,10 +1,14 @@
 -- What a turn of an opener that isn't aside leaves of a world: it stands, and from each of its states the turn leads to
 -- one of it.
-use Rattle.std.proofs.Common.{◌≡◌, ◌≢◌, ℕ, ◌≤◌, List, [], length, slice_get, Bool, true, false, Option, Some, None, is_some, refl, sym, ◌∙◌, ap, subst, inl, inr, arith}
+use Rattle.std.proofs.Common.{◌≡◌, ◌≢◌, ℕ, ◌<◌, ◌≤◌, ◌⊎◌, List, [], length, slice_get, Bool, true, false, Option, Some, None, is_some, refl, sym, ◌∙◌, ap, subst, inl, inr, arith}
+use Rattle.std.specs.Prelude.{if◌then◌else◌}
+use Rattle.std.proofs.lemmas.Bool.{cases_Bool}
 use Rattle.tdb_disk.specs.History.{History, seen}
 use Rattle.tdb_words.specs.declared.header.Header.{Header}
 use Rattle.tdb_space.specs.Accepted.{AcceptWith}
 use Rattle.tdb_space.specs.Form.{Form, form_in}
+use Rattle.tdb_space.specs.Pairs.{home}
+use Rattle.tdb_space.proofs.Pairs.Maps.{home_below}
 use Rattle.tdb_locks.specs.declared.kind.Kind.{Kind}
 use Rattle.tdb_locks.specs.declared.kind.Kind.TheVariants.{Read, Write}
 use Rattle.tdb_locks.specs.declared.piece.Piece.{Piece}
@@ -12,20 +16,23 @@ use Rattle.tdb_law.specs.Commands.{Command, Turn}
 use Rattle.tdb_law.specs.Commands.Reply.{Full}
 use Rattle.tdb_law.specs.Commands.Turn.{Ends}
 use Rattle.tdb_law.specs.Counting.{settled_after}
-use Rattle.tdb_law.specs.Openers.{Own, Task as LawTask}
-use Rattle.tdb_law.specs.Refusals.{Refusal, refusal}
+use Rattle.tdb_law.specs.Images.{image_map}
+use Rattle.tdb_law.specs.Openers.{Own, Task as LawTask, has}
+use Rattle.tdb_law.specs.Refusals.{Refusal, refusal, chain_byte}
 use Rattle.tdb_law.specs.Turned.{Turned}
 use Rattle.tdb_law.specs.World.{State, IsSound}
 use Rattle.tdb_law.proofs.Sound.{sound_after}
 use Rattle.tdb_law.proofs.Tests.{never_true}
 use Rattle.tdb_steps.specs.Turns.{number_of}
 use Rattle.tdb_law.specs.OneAside.Sides.{Past, Side, beside, whole, StandsAside}
+use Rattle.tdb_law.specs.OneAside.Passing.{IsOut}
 use Rattle.tdb_law.specs.OneAside.Starts.{MayStart}
 use Rattle.tdb_law.specs.OneAside.Turns.{IsApart, IsClear, IsUngrouped, past_after}
 use Rattle.tdb_law.proofs.OneAside.Beside.{alone_turns, beside_turns}
 use Rattle.tdb_law.proofs.OneAside.Starting.{starts_turn}
 use Rattle.tdb_commands.specs.InLaw.{law_opener, law_command}
 use Rattle.tdb_commands.specs.declared.options.Options.{Options}
+use Rattle.tdb_txn_owner.specs.Heads.{HeadsHold, is_written}
 use Rattle.tdb_txn_owner.specs.Holders.{HolderState}
 use Rattle.tdb_txn_owner.specs.Stages.{commit_records, plan_records, prepared_records, stage_records, IsFit, IsSide, Known, KnowsFile}
 use Rattle.tdb_txn_owner.specs.declared.stage.Stage.{Stage}
@@ -33,13 +40,15 @@ use Rattle.tdb_txn_owner.specs.declared.stage.Stage.TheVariants as At
 use Rattle.tdb_openers.specs.Calm.{WritesNoRecord}
 use Rattle.tdb_openers.specs.Openers.{command_in, own_of, IsRefused, JobStands}
 use Rattle.tdb_openers.specs.Openers.IsRefused.{refuses, has_ended}
-use Rattle.tdb_openers.specs.ShutOut.{ShutsOut, IsTurnBeside}
+use Rattle.tdb_txn_owner.proofs.HeadsTold.{heads_there, lacked_out}
+use Rattle.tdb_openers.specs.ShutOut.{ShutsOut, HeadsShow, IsTurnBeside, heads_in}
 use Rattle.tdb_openers.specs.Worlds.{World, state_in, law_of_task, BytesStand, IsBusy, IsNumber, Stands}
 use Rattle.tdb_openers.specs.declared.job.Job.{Job}
 use Rattle.tdb_openers.specs.declared.job.Job.TheVariants as Jobs
 use Rattle.tdb_openers.specs.declared.job.Task.{Task}
 use Rattle.tdb_openers.specs.declared.opener.Opener.{Opener}
 use Rattle.tdb_openers.proofs.Barred.ShutOut.{its_own, IsBarred}
+use Rattle.tdb_openers.proofs.Barred.Passing.{heads_some}
 use Rattle.tdb_openers.proofs.Joining.Occupied.{job_at, own_here}
 use Rattle.tdb_openers.proofs.ExplicitLocks.Sharing.{others_write_none}
 use Rattle.tdb_world.specs.Shut.{IsOpen, IsShutBy}
@@ -66,6 +75,19 @@ with_openers w v = record w { openers = v }
 
 pub put_openers : (old new : Whole) → record new { openers = old.openers } ≡ old → new ≡ with_openers old new.openers
 put_openers old new rest = ap (λ (z : Whole). record z { openers = new.openers }) rest
+
+-- The head of a key's chain isn't 0, where the heads tell of an image that has it.
+head_there : (f : Form) (bytes img : List ℕ) (s : Side) (k : List ℕ) → 0 < f.chains → s.heads ≡ heads_in f bytes → HeadsHold f bytes img → has (image_map f img) k ≡ true → s.heads (chain_byte f k) ≡ true
+head_there f bytes img s k some is H there = ap (λ g. g (chain_byte f k)) is ∙ heads_some f bytes (home f k) (home_below f k some) (H.keys k there)
+
+-- So a key of the file's map is in such a chain, or is out of the file.
+heads_tell : (f : Form) (bytes : List ℕ) (s : Side) (r b : List ℕ) (written : Bool) → 0 < f.chains → s.heads ≡ heads_in f bytes → HeadsHold f bytes (if written then b else r) → (k : List ℕ)
+    → (written ≡ true → has (image_map f b) k ≡ false → IsOut f s k) → has (image_map f r) k ≡ true → (s.heads (chain_byte f k) ≡ true) ⊎ IsOut f s k
+heads_tell f bytes s r b false some is H k out there = inl (head_there f bytes r s k some is H there)
+heads_tell f bytes s r b true some is H k out there = elim (cases_Bool (has (image_map f b) k)) [
+  | inl kept ↦ inl (head_there f bytes b s k some is H kept)
+  | inr lacks ↦ inr (out refl lacks)
+]
 
 some_holder : (a b : HolderState) → ◌≡◌ {A = Option HolderState} (Some a) (Some b) → a ≡ b
 some_holder a b e = cc
@@ -283,10 +305,11 @@ module _ (w : Whole) (v : World) (who : ℕ) (x : Opener) (t : Task) (turn : Tur
       -- it is aside of the openers that are left, in a file that is known so
       abbrev Stays : History → List ℕ → Known → Bool → Type 0
       Stays now b k z = IsSide f (options_at w) h.owner h.locks h.stage k past s → KnowsFile f h.stage now k → b ≡ k.file → (is_some (stage_records h.stage) ≡ true → AcceptWith f b [])
-          → (writes_all (stage_records h.stage) ≡ false → IsSeen then_ now b) → (writes_all (stage_records h.stage) ≡ true → s.table 48 ≡ 0 → w.number ≡ number_of f b) → IsAside then_ h now b (record past { settled = z }) s
+          → (writes_all (stage_records h.stage) ≡ false → IsSeen then_ now b) → (writes_all (stage_records h.stage) ≡ true → s.table 48 ≡ 0 → w.number ≡ number_of f b)
+          → (writes_all (stage_records h.stage) ≡ true → s.heads ≡ heads_in f (seen now)) → IsAside then_ h now b (record past { settled = z }) s
 
       stays : (now : History) (b : List ℕ) (k : Known) (z : Bool) → Stays now b k z
-      stays now b k z S file same accepted others number = record {
+      stays now b k z S file same accepted others number heads = record {
         known = k;
         image = same;
         side = subst (λ y. IsSide (form_in y) (options_at then_) h.owner h.locks h.stage k (record past { settled = z }) s) (sym K.header)
@@ -297,6 +320,7 @@ module _ (w : Whole) (v : World) (who : ℕ) (x : Opener) (t : Task) (turn : Tur
         accepted = λ some. subst (λ y. AcceptWith (form_in y) b []) (sym K.header) (accepted some);
         others = others;
         number = λ writes none. number writes none ∙ ap (λ y. number_of (form_in y) b) (sym K.header);
+        heads = λ writes. heads writes ∙ ap (λ y. heads_in (form_in y) (seen now)) (sym K.header);
       }
 
   -- nobody shuts the others out, and the turn is one on the bytes of the file
@@ -340,14 +364,14 @@ module _ (w : Whole) (v : World) (who : ℕ) (x : Opener) (t : Task) (turn : Tur
       aside_by : (all : Option Kind) → stage_records hd.stage ≡ all → IsAside then_ hd later (seen later) (record past { settled = z }) s
       aside_by None none =
           let G = side_new f (options_at w) hd.owner hd.locks A.known past s (seen later) hd.stage none A.side in
-          stays hd is h img past s A later (seen later) (record A.known { file = seen later }) z G.0 (G.1 later refl) refl (λ some. absurd (never_true (sym (ap is_some none) ∙ some))) (λ e. seen_at img N) (λ writes e. not_writing writes)
+          stays hd is h img past s A later (seen later) (record A.known { file = seen later }) z G.0 (G.1 later refl) refl (λ some. absurd (never_true (sym (ap is_some none) ∙ some))) (λ e. seen_at img N) (λ writes e. not_writing writes) (λ writes. not_writing writes)
       aside_by (Some Read) reads =
           let H = fits hd is in
           let same : later ≡ h =
           calm (others_write_none f (options_at w) w.openers.openers w.openers.table any size (law_opener hd.owner) 1 Read H.opener F.openers (there_named w.openers hd.owner H.opener H.number) H.bare (A.records H.opener H.number ∙ ap once reads) l
           (λ e. apart_from hd is (sym e))) in
           stays hd is h img past s A later (seen later) A.known z A.side (subst (λ y. KnowsFile f hd.stage y A.known) (sym same) A.file) (ap seen same ∙ (sym N.image ∙ A.image))
-          (λ some. subst (λ y. AcceptWith f y []) (N.image ∙ ap seen (sym same)) (A.accepted some)) (λ e. seen_at img N) (λ writes e. not_writing writes)
+          (λ some. subst (λ y. AcceptWith f y []) (N.image ∙ ap seen (sym same)) (A.accepted some)) (λ e. seen_at img N) (λ writes e. not_writing writes) (λ writes. not_writing writes)
       aside_by (Some Write) writes = absurd (nobody hd is writes)
 
       beside_leads : IsSound f (beside p past s) → Leads later img past (Some s)
@@ -368,9 +392,10 @@ module _ (w : Whole) (v : World) (who : ℕ) (x : Opener) (t : Task) (turn : Tur
     pub open_leads : (state : State) → IsStateOf w h state → Reaches later state
     open_leads = leads h later (open_by w.aside refl)
 
-  -- the one aside shuts the others out, and no call is made on the file
+  -- the one aside shuts the others out, and nothing of the file changes
   module _ (h : History) (owner : ℕ) (bars : Bool) (Z : IsShutBy w owner bars)
-      (turned : (img : List ℕ) (past : Past) (s : Side) → ShutsOut w.openers img past s owner → (bars ≡ true → 2 ≤ s.table 48) → (bars ≡ false → (s.table 48 ≡ 0) × (w.number ≡ number_of f img)) → IsTurnBeside w.openers v img past s l lt turn) where
+      (turned : (img : List ℕ) (past : Past) (s : Side) → ShutsOut w.openers img past s owner → (bars ≡ true → 2 ≤ s.table 48) → (bars ≡ false → (s.table 48 ≡ 0) × (w.number ≡ number_of f img))
+      → HeadsShow w.openers img (seen h) s → IsTurnBeside w.openers v img past s l lt turn) where
     module _ (img : List ℕ) (past : Past) (s : Side) (sound : IsSound f (beside (state_in w.openers img) past s)) (A : IsAside w Z.holder h img past s) where
       all_writes : writes_all (stage_records Z.holder.stage) ≡ true
       all_writes = ap writes_all Z.writes
@@ -390,14 +415,33 @@ module _ (w : Whole) (v : World) (who : ℕ) (x : Opener) (t : Task) (turn : Tur
         | inr two ↦ absurd (let held = two.0 in never_true (sym e ∙ (Z.number f (options_at w) A.known past s A.side).1 (omega (arith, held))))
       ]
 
+      -- what the heads tell
+      abbrev written : Bool
+      written = is_written Z.holder.stage
+
+      hold : HeadsHold f (seen h) (if written then A.known.image else A.known.file)
+      hold = heads_there f Z.holder.stage h A.known Z.writes A.file
+
+      shows : HeadsShow w.openers img (seen h) s
+      shows = record {
+        accepted = accepted;
+        reaches = hold.reaches;
+        heads = A.heads all_writes;
+        tell = λ k there. heads_tell f (seen h) s A.known.file A.known.image written accepted.some (A.heads all_writes) hold k
+            (λ e. lacked_out f (options_at w) Z.holder.owner Z.holder.locks Z.holder.stage A.known past s A.side e k) (ap (λ i. has (image_map f i) k) (sym A.image) ∙ there);
+      }
+        where
+          accepted : AcceptWith f img []
+          accepted = A.accepted (ap is_some Z.writes)
+
       U : IsTurnBeside w.openers v img past s l lt turn
-      U = turned img past s shuts is_held (λ e. (is_none e, A.number all_writes (is_none e)))
+      U = turned img past s shuts is_held (λ e. (is_none e, A.number all_writes (is_none e))) shows
 
       abbrev kept : Past
       kept = past_after f (state_in w.openers img) l lt turn past
 
       still : IsAside then_ Z.holder h img kept s
-      still = stays Z.holder Z.aside h img past s A h img A.known kept.settled A.side A.file A.image A.accepted (λ e. absurd (never_true (sym e ∙ all_writes))) A.number
+      still = stays Z.holder Z.aside h img past s A h img A.known kept.settled A.side A.file A.image A.accepted (λ e. absurd (never_true (sym e ∙ all_writes))) A.number A.heads
 
       shut_by : Leads h img past (Some s)
       shut_by = record {

@@ -137,7 +137,7 @@ module _ (w : Whole) (o : ℕ) (any : List ℕ) (size : ℕ) (F : WorldFits w an
 
     -- the side that it is then
     abbrev side : Side
-    side = record { here = o; table = λ b. 0; task = Some new_start; own = own; view = p.view o; mark = p.mark o; shuts = false }
+    side = record { here = o; table = λ b. 0; task = Some new_start; own = own; view = p.view o; mark = p.mark o; shuts = false; heads = λ b. false }
 
     same_state : (starts later : ℕ → Bool) → starts o ≡ true → later o ≡ false → ((q : ℕ) → q ≢ o → later q ≡ starts q) → with_starts starts (alone p past) ≡ with_starts later (beside p past side)
     same_state starts later has gone others = λ i. record (alone p past) {
@@ -220,6 +220,7 @@ module _ (w : Whole) (o : ℕ) (any : List ℕ) (size : ℕ) (F : WorldFits w an
         accepted = λ e. absurd (never_true e);
         others = λ e. record { image = N.image; bytes = N.bytes };
         number = λ e. absurd (never_true e);
+        heads = λ e. absurd (never_true e);
       }
 
 -- a world without the Start stands
@@ -412,6 +413,7 @@ module _ (w : Whole) (o : ℕ) (any : List ℕ) (size : ℕ) (F : WorldFits w an
       accepted = A.accepted;
       others = λ e. (let N = A.others e in record { image = N.image; bytes = N.bytes });
       number = A.number;
+      heads = A.heads;
     }
 
   abbrev Leads : Whole → State → Turn → Type 0

@@ -12,6 +12,7 @@ use Rattle.tdb_steps.specs.Turns.{number_of}
 use Rattle.tdb_law.specs.OneAside.Sides.{Past, Side, alone, whole}
 use Rattle.tdb_law.specs.OneAside.Starts.{with_starts}
 use Rattle.tdb_openers.specs.Aside.{LocksNoRecord}
+use Rattle.tdb_openers.specs.ShutOut.{heads_in}
 use Rattle.tdb_openers.specs.Worlds.{state_in, BytesStand, IsNumber}
 use Rattle.tdb_openers.specs.declared.opener.Opener.{Opener}
 use Rattle.tdb_txn_owner.specs.Holders.{HolderState}
@@ -34,7 +35,8 @@ pub record IsSeen (w : Whole) (h : History) (img : List ℕ) : Type 0 where
   pub bytes : BytesStand w.openers img
 
 -- The one aside is this side of the state, by what is known of the file, which has the map and the number of the image.
--- Among the openers it holds all records as its stage says.
+-- Among the openers it holds all records as its stage says. While it shuts the others out the heads of the file are all
+-- that they may read.
 pub record IsAside (w : Whole) (holder : HolderState) (h : History) (img : List ℕ) (past : Past) (s : Side) : Type 0 where
   pub known : Known
   pub image : img ≡ known.file
@@ -45,6 +47,7 @@ pub record IsAside (w : Whole) (holder : HolderState) (h : History) (img : List 
   pub accepted : is_some (stage_records holder.stage) ≡ true → AcceptWith (form_at w) img []
   pub others : writes_all (stage_records holder.stage) ≡ false → IsSeen w h img
   pub number : writes_all (stage_records holder.stage) ≡ true → s.table 48 ≡ 0 → w.number ≡ number_of (form_at w) img
+  pub heads : writes_all (stage_records holder.stage) ≡ true → s.heads ≡ heads_in (form_at w) (seen h)
 
 abbrev pub SideIs : Whole → Option HolderState → History → List ℕ → Past → Option Side → Type 0
 SideIs w None h img past None = IsSeen w h img

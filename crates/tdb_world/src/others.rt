@@ -9,7 +9,7 @@ ghost use Rattle.tdb_commands.specs.InLaw.{law_opener, law_turn};
 ghost use Rattle.tdb_space.specs.Form.{form_in};
 ghost use Rattle.tdb_steps.specs.Turns.{number_of};
 ghost use Rattle.tdb_law.specs.OneAside.Sides.{Past, Side};
-ghost use Rattle.tdb_openers.specs.ShutOut.{HoldsAll, ShutsOut, IsTurnBeside};
+ghost use Rattle.tdb_openers.specs.ShutOut.{HeadsShow, HoldsAll, IsMove, IsTurnBeside, ShutsOut};
 ghost use Rattle.tdb_openers.specs.Calm.{IsMidway, WritesNoRecord};
 ghost use Rattle.tdb_openers.specs.Openers.{own_of};
 ghost use Rattle.tdb_openers.specs.Worlds.{law_of_task, state_in, BytesStand, IsBusy, Stands};
@@ -88,11 +88,12 @@ impl AllOpeners {
         self.openers.turn(&mut view, who)
     }
 
-    /// Takes a turn of an opener while the one aside, which has the number `holder` and stands in the way of the
-    /// sequence number or not, holds all records for writing. No call is made on the file: the number is the one that
-    /// the file had when the records were locked.
+    /// Takes a turn of an opener, whose command doesn't move a cursor, while the one aside, which has the number
+    /// `holder` and stands in the way of the sequence number or not, holds all records for writing. No call is made on
+    /// the file: the number is the one that the file had when the records were locked.
     fn shut_out_turn(&mut self, who: u32, holder: u32, bars: bool) -> Turn
         requires busy { (x : Opener) × (t : Task) × IsBusy self.old.openers who x t }
+        requires still { (x : Opener) (t : Task) → IsBusy self.old.openers who x t → IsMove t.job → ⊥ }
         requires other { holder ≢ who }
         requires stands { (img : List ℕ) × (size : ℕ) × Stands self.old.openers img size }
         requires shut { HoldsAll self.old.openers holder }
@@ -118,6 +119,68 @@ impl AllOpeners {
         }
         self.openers.end_seqnum(who);
         Turn::Done(Reply::Number(u64::from(self.number)))
+    }
+
+    /// Takes a turn of an opener whose command moves its cursor, while the one aside, which has the number `holder`,
+    /// holds all records for writing. Of the file it reads the heads of the chains alone.
+    fn passing_turn<D: Disk>(&mut self, d: &mut D, who: u32, holder: u32) -> Result<Turn, Io>
+        requires busy { (x : Opener) × (t : Task) × IsBusy self.old.openers who x t × IsMove t.job }
+        requires other { holder ≢ who }
+        requires stands { (img : List ℕ) × (size : ℕ) × Stands self.old.openers img size }
+        requires shut { HoldsAll self.old.openers holder }
+        ensures openers { (img : List ℕ) (size : ℕ) → Stands self.old.openers img size → Stands self.new.openers img size }
+        ensures bytes { (img : List ℕ) → BytesStand self.old.openers img → BytesStand self.new.openers img }
+        ensures rest { record self.new { openers = self.old.openers } ≡ self.old }
+        ensures joined { length self.new.openers.openers ≡ length self.old.openers.openers }
+        ensures others { (o : ℕ) → o ≢ law_opener who → slice_get self.new.openers.openers o ≡ slice_get self.old.openers.openers o }
+        ensures header { self.new.openers.header ≡ self.old.openers.header }
+        ensures options { self.new.openers.options ≡ self.old.openers.options }
+        ensures step { IfOk result (λ turn. turn ≡ Turn.Step → ⊥) }
+        ensures turned { IfOk result (λ turn. IsTrue D.tells → (img : List ℕ) (past : Past) (s : Side) (x : Opener) (t : Task) → IsBusy self.old.openers who x t → ShutsOut self.old.openers img past s holder
+            → HeadsShow self.old.openers img (seen (D.history d.old)) s → IsTurnBeside self.old.openers self.new.openers img past s (law_opener who) (law_of_task t) (law_turn turn)) }
+        ensures history { D.history d.new ≡ D.history d.old }
+        ensures size { D.size d.new ≡ D.size d.old }
+        ensures no_sync { D.syncs d.new ≡ D.syncs d.old }
+        ensures cause { HasCause (D.faults d.old) (D.faults d.new) result }
+    {
+        let header = *self.openers.header();
+        let mut view = Direct::new(d, &header);
+        self.openers.move_shut_out(&mut view, who, holder)
+    }
+
+    /// Takes a turn of an opener while the one aside holds all records for writing: its number is `holder`, and it
+    /// stands in the way of the sequence number or not.
+    fn turn_beside<D: Disk>(
+        &mut self,
+        d: &mut D,
+        who: u32,
+        holder: u32,
+        bars: bool,
+    ) -> Result<Turn, Io>
+        requires busy { (x : Opener) × (t : Task) × IsBusy self.old.openers who x t }
+        requires other { holder ≢ who }
+        requires stands { (img : List ℕ) × (size : ℕ) × Stands self.old.openers img size }
+        requires shut { HoldsAll self.old.openers holder }
+        ensures openers { (img : List ℕ) (size : ℕ) → Stands self.old.openers img size → Stands self.new.openers img size }
+        ensures bytes { (img : List ℕ) → BytesStand self.old.openers img → BytesStand self.new.openers img }
+        ensures rest { record self.new { openers = self.old.openers } ≡ self.old }
+        ensures joined { length self.new.openers.openers ≡ length self.old.openers.openers }
+        ensures others { (o : ℕ) → o ≢ law_opener who → slice_get self.new.openers.openers o ≡ slice_get self.old.openers.openers o }
+        ensures header { self.new.openers.header ≡ self.old.openers.header }
+        ensures options { self.new.openers.options ≡ self.old.openers.options }
+        ensures step { IfOk result (λ turn. turn ≡ Turn.Step → ⊥) }
+        ensures turned { IfOk result (λ turn. IsTrue D.tells → (img : List ℕ) (past : Past) (s : Side) (x : Opener) (t : Task) → IsBusy self.old.openers who x t → ShutsOut self.old.openers img past s holder
+            → (bars ≡ true → 2 ≤ s.table 48) → (bars ≡ false → (s.table 48 ≡ 0) × (self.old.number ≡ number_of (form_in self.old.openers.header) img)) → HeadsShow self.old.openers img (seen (D.history d.old)) s
+            → IsTurnBeside self.old.openers self.new.openers img past s (law_opener who) (law_of_task t) (law_turn turn)) }
+        ensures history { D.history d.new ≡ D.history d.old }
+        ensures size { D.size d.new ≡ D.size d.old }
+        ensures no_sync { D.syncs d.new ≡ D.syncs d.old }
+        ensures cause { HasCause (D.faults d.old) (D.faults d.new) result }
+    {
+        if self.openers.moves(who) {
+            return self.passing_turn(d, who, holder);
+        }
+        Ok(self.shut_out_turn(who, holder, bars))
     }
 
     /// Takes one turn of an opener that isn't aside, and has no Start without a turn.
@@ -146,7 +209,7 @@ impl AllOpeners {
         ensures longer { OnOk result (D.size d.old ≤ D.size d.new) }
     {
         match self.shutter() {
-            Some(Shutter { owner, bars }) => Ok(self.shut_out_turn(who, owner, bars)),
+            Some(Shutter { owner, bars }) => self.turn_beside(d, who, owner, bars),
             None => self.turn_in_file(d, who),
         }
     }

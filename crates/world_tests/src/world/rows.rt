@@ -57,7 +57,7 @@ const GREW: Notice = Notice::Grew {
     to: 4096,
 };
 
-pub(crate) static ROWS: [Row; 17] = [
+pub(crate) static ROWS: [Row; 20] = [
     Row {
         what: "two stores, turn by turn, and where the second one's record stands",
         image: NEW,
@@ -96,6 +96,26 @@ pub(crate) static ROWS: [Row; 17] = [
         what: "a commit waits for a cursor",
         script: "open\nopen\ndo 1 start\ndo 2 first\ndo 1 store a 5\ndo 1 commit\ndo 2 endwalk\ngo 1\n",
         told: "1 open\n2 open\n1 step\n1 step\n1 done ok\n2 done key(1) = \"a\" data(1) = \"1\"\n1 done ok\n1 blocked 2 4064\n2 done ok\n1 step\n1 step\n1 step\ngrew 4096 8192\n1 step\n1 step\n1 step\n1 step\n1 step\n1 done ok\n",
+        ..PLAIN
+    },
+    Row {
+        what: "a move beside a commit passes over empty chains, and ends",
+        image: NEW,
+        script: "open\ndo 1 start\ngive 1 store b 1\ngo 1\nopen\ngive 2 first\ngive 1 commit\nturn 1\nturn 2\n",
+        told: "1 open\n1 step\n1 step\n1 done ok\n1 done ok\n2 open\n1 step\n2 done end\n",
+        ..PLAIN
+    },
+    Row {
+        what: "it is blocked before the first chain that isn't empty, and goes on from there",
+        image: NEW,
+        script: "open\ndo 1 store b 1\ndo 1 start\ngive 1 store c 2\ngo 1\nopen\ngive 2 first\ngive 1 commit\nturn 1\nturn 2\ngo 1\ngo 2\n",
+        told: "1 open\n1 step\n1 step\n1 step\n1 step\ngrew 696 4096\n1 step\n1 done ok\n1 step\n1 step\n1 done ok\n1 done ok\n2 open\n1 step\n2 blocked 1 448\n1 step\n1 step\ngrew 4096 8192\n1 step\n1 step\n1 step\n1 step\n1 step\n1 done ok\n2 done key(1) = \"b\" data(1) = \"1\"\n",
+        ..PLAIN
+    },
+    Row {
+        what: "a walk sees the emptiness of a commit that is then undone",
+        script: "open\nopen\ndo 1 start\ndo 1 delete a\ngive 1 commit\nturn 1\nturn 1\nturn 1\nturn 1\nturn 1\nturn 1\ndo 2 first\ndie 1\ndo 2 first\n",
+        told: "1 open\n2 open\n1 step\n1 step\n1 done ok\n1 done ok\n1 step\n1 step\n1 step\ngrew 4096 8192\n1 step\n1 step\n1 step\n2 done end\n1 died\nundone 5 4096\n2 done key(1) = \"a\" data(1) = \"1\"\n",
         ..PLAIN
     },
     Row {

@@ -1,5 +1,5 @@
 -- The turn is one on the bytes of the file, or that of an opener that is shut out.
-use Rattle.std.proofs.Common.{◌≡◌, refl, sym, subst}
+use Rattle.std.proofs.Common.{◌≡◌, sym, subst, arith}
 use Rattle.std.specs.Prelude.{Result, IfOk, OnOk, IsTrue}
 use Rattle.std.proofs.Common.{Ok, Err}
 use Rattle.tdb_disk.specs.History.{History, seen}
@@ -11,12 +11,13 @@ use Rattle.tdb_openers.proofs.ExplicitLocks.Aside.{on_one}
 use Rattle.tdb_world.specs.States.{IsStateOf}
 use Rattle.tdb_world.specs.Steps.{HasCommand, TurnLeads}
 use Rattle.tdb_world.specs.Steps.HasCommand.{by_job}
+use Rattle.tdb_world.specs.Room.{FullOfTurn}
 use Rattle.tdb_world.specs.Room.EndsFullRightly.{full_in_file, full_never}
 use Rattle.tdb_world.specs.Room.StoresNothing.{is_shut_out}
 use Rattle.tdb_world.specs.Stops.{IsChanging, IsSafe}
 use Rattle.tdb_world.specs.Whole.{form_at, WorldFits}
 use Rattle.tdb_txn_turns.proofs.Room.{never}
-use Rattle.tdb_world.proofs.OtherTurns.{OnlyOne, open_fits, open_leads, put_openers, same_fits, shut_leads, shut_not_full, still_among}
+use Rattle.tdb_world.proofs.OtherTurns.{OnlyOne, with_openers, open_fits, open_leads, put_openers, same_fits, shut_leads, shut_not_full, still_among}
 use Rattle.tdb_world.proofs.Spared.{not_midway}
 use Rattle.tdb_world.proofs.Outside.{file_stands}
 use Rattle.std.proofs.lemmas.Result.{IfOk-weaker}
@@ -30,30 +31,46 @@ if_ok : {V E : Type 0} (r : Result V E) (P : Type 0) (Q R : V → Type 0) → ((
 if_ok (Ok x) P Q R from p q = from x p q
 if_ok (Err e) P Q R from p q = tt
 
+on_ok : {V E : Type 0} (r : Result V E) (Q R : V → Type 0) → ((x : V) → Q x → R x) → IfOk r Q → IfOk r R
+on_ok (Ok x) Q R from q = from x q
+on_ok (Err e) Q R from q = tt
+
+always_ok : {V E : Type 0} (r : Result V E) (P : Type 0) → P → OnOk r P
+always_ok (Ok x) P p = p
+always_ok (Err e) P p = tt
+
 pub returns-in-Some-clause-fits : goal.returns-in-Some-clause-fits
 returns-in-Some-clause-fits g c =
     let old = c.args.self.now in
-    let new = c.shut_out_turn.new.self in
-    let E = c.shut_out_turn.ensures in
+    let new = c.turn_beside.new.self in
+    let E = c.turn_beside.ensures in
     let img = seen (g.D.Disk.history c.args.d.now) in
     let size = g.D.Disk.size c.args.d.now in
+    let b = seen (g.D.Disk.history c.turn_beside.new.d) in
+    let later = g.D.Disk.size c.turn_beside.new.d in
     let K : OnlyOne old.openers new.openers (law_opener c.args.who) = record { header = E.header; options = E.options; joined = E.joined; others = E.others } in
-    subst (λ z. WorldFits z img size) (sym (put_openers old new E.rest))
-    (same_fits old new.openers c.args.who c.requires.named c.requires.among c.requires.begun K c.requires.fresh img size c.requires.fits (E.openers img size c.requires.fits.openers))
+    always_ok c.turn_beside.result (WorldFits new b later)
+    (subst (λ z. WorldFits z b later) (sym (put_openers old new E.rest))
+    (subst (λ y. WorldFits (with_openers old new.openers) (seen y) later) (sym E.history) (subst (WorldFits (with_openers old new.openers) img) (sym E.size)
+    (same_fits old new.openers c.args.who c.requires.named c.requires.among c.requires.begun K c.requires.fresh img size c.requires.fits (E.openers img size c.requires.fits.openers)))))
 
 pub returns-in-Some-clause-turned : goal.returns-in-Some-clause-turned
-returns-in-Some-clause-turned g c told state S =
+returns-in-Some-clause-turned g c =
     let old = c.args.self.now in
-    let new = c.shut_out_turn.new.self in
-    let E = c.shut_out_turn.ensures in
+    let new = c.turn_beside.new.self in
+    let E = c.turn_beside.ensures in
     let h = g.D.Disk.history c.args.d.now in
+    let later = g.D.Disk.history c.turn_beside.new.d in
     let x = c.requires.busy.0 in
     let t = c.requires.busy.1 in
     let B = c.requires.busy.2 in
     let K : OnlyOne old.openers new.openers (law_opener c.args.who) = record { header = E.header; options = E.options; joined = E.joined; others = E.others } in
-    subst (λ z. TurnLeads old z h h c.args.who (law_turn c.shut_out_turn.result)) (sym (put_openers old new E.rest))
-    (shut_leads old new.openers c.args.who x t (law_turn c.shut_out_turn.result) (seen h) (g.D.Disk.size c.args.d.now) c.requires.named B c.requires.among c.requires.begun c.requires.fresh c.requires.fits K h c.in-Some.field-0.owner c.in-Some.field-0.bars c.in-Some.ensures.some
-    (λ img past s O. E.turned img past s x t B O)) state S
+    on_ok c.turn_beside.result _ (λ turn. IsTrue g.D.Disk.tells → TurnLeads old new h later c.args.who (law_turn turn))
+    (λ turn turned told. subst (λ z. TurnLeads old z h later c.args.who (law_turn turn)) (sym (put_openers old new E.rest))
+    (subst (λ y. TurnLeads old (with_openers old new.openers) h y c.args.who (law_turn turn)) (sym E.history)
+    (shut_leads old new.openers c.args.who x t (law_turn turn) (seen h) (g.D.Disk.size c.args.d.now) c.requires.named B c.requires.among c.requires.begun c.requires.fresh c.requires.fits K h c.in-Some.field-0.owner c.in-Some.field-0.bars c.in-Some.ensures.some
+    (λ img past s O barred free shows. turned told img past s x t B O barred free shows))))
+    E.turned
 
 pub returns-in-None-clause-fits : goal.returns-in-None-clause-fits
 returns-in-None-clause-fits g c =
@@ -99,20 +116,21 @@ returns-in-None-clause-busy g c =
     E.stands E.busy
 
 pub returns-in-Some-clause-full : goal.returns-in-Some-clause-full
-returns-in-Some-clause-full g c told state S =
+returns-in-Some-clause-full g c =
     let old = c.args.self.now in
-    let new = c.shut_out_turn.new.self in
-    let E = c.shut_out_turn.ensures in
+    let new = c.turn_beside.new.self in
+    let E = c.turn_beside.ensures in
     let h = g.D.Disk.history c.args.d.now in
     let x = c.requires.busy.0 in
     let t = c.requires.busy.1 in
     let B = c.requires.busy.2 in
     let Z = c.in-Some.ensures.some in
-    let turn = law_turn c.shut_out_turn.result in
     let K : OnlyOne old.openers new.openers (law_opener c.args.who) = record { header = E.header; options = E.options; joined = E.joined; others = E.others } in
-    full_never (is_shut_out c.requires.among Z.holder Z.aside Z.writes) (never turn
-    (shut_not_full old new.openers c.args.who x t turn (seen h) (g.D.Disk.size c.args.d.now) c.requires.named B c.requires.among c.requires.begun c.requires.fresh c.requires.fits K h c.in-Some.field-0.owner c.in-Some.field-0.bars Z
-    (λ img past s O. E.turned img past s x t B O) state S))
+    on_ok c.turn_beside.result _ (λ turn. IsTrue g.D.Disk.tells → FullOfTurn old h c.args.who (law_turn turn))
+    (λ turn turned told state S. full_never (is_shut_out c.requires.among Z.holder Z.aside Z.writes) (never (law_turn turn)
+    (shut_not_full old new.openers c.args.who x t (law_turn turn) (seen h) (g.D.Disk.size c.args.d.now) c.requires.named B c.requires.among c.requires.begun c.requires.fresh c.requires.fits K h c.in-Some.field-0.owner c.in-Some.field-0.bars Z
+    (λ img past s O barred free shows. turned told img past s x t B O barred free shows) state S)))
+    E.turned
 
 pub returns-in-None-clause-full : goal.returns-in-None-clause-full
 returns-in-None-clause-full g c =
@@ -126,7 +144,26 @@ returns-in-None-clause-full g c =
 
 pub returns-in-Some-clause-stops : goal.returns-in-Some-clause-stops
 returns-in-Some-clause-stops g c told state S safe never =
-    let h = g.D.Disk.history c.args.d.now in still_leaves c.args.self.now h h state (law_opener c.args.who) refl S safe
+    still_leaves c.args.self.now (g.D.Disk.history c.args.d.now) (g.D.Disk.history c.turn_beside.new.d) state (law_opener c.args.who) c.turn_beside.ensures.history S safe
+
+pub returns-in-Some-clause-safe : goal.returns-in-Some-clause-safe
+returns-in-Some-clause-safe g c =
+    always_ok c.turn_beside.result _ (λ told state S safe never. subst (IsSafe (form_at c.args.self.now)) (sym c.turn_beside.ensures.history) safe)
+
+pub returns-in-Some-clause-busy : goal.returns-in-Some-clause-busy
+returns-in-Some-clause-busy g c = on_ok c.turn_beside.result _ _ (λ turn never is. absurd (never is)) c.turn_beside.ensures.step
+
+pub returns-in-Some-clause-cause : goal.returns-in-Some-clause-cause
+returns-in-Some-clause-cause g c told state S = c.turn_beside.ensures.cause
+
+pub returns-in-Some-clause-done : goal.returns-in-Some-clause-done
+returns-in-Some-clause-done g c = c.turn_beside.ensures.cause.done
+
+pub returns-in-Some-clause-rises : goal.returns-in-Some-clause-rises
+returns-in-Some-clause-rises g c = c.turn_beside.ensures.cause.never_falls
+
+pub returns-in-Some-clause-longer : goal.returns-in-Some-clause-longer
+returns-in-Some-clause-longer g c = always_ok c.turn_beside.result _ (let same = c.turn_beside.ensures.size in omega (arith, same))
 
 -- a turn that doesn't go on with a change leaves the history
 module _ (g : Given.Over) (c : After-turn_in_file g) (state : State) where

@@ -30,6 +30,9 @@ Numbered z v who holder img past s x t =
     IsBusy z who x t → holder ≢ who → ShutsOut z img past s holder → IsFree q.table (law_opener who) (want (form_in z.header) q (law_opener who) (law_of_task t))
     → IsTurnBeside z v img past s (law_opener who) (law_of_task t) (Ends (Number q.number))
 
+pub turn_shut_out-requires-clause-still : goal.turn_shut_out-requires-clause-still
+turn_shut_out-requires-clause-still c x t B moves = c.requires.still x t (subst (λ z. IsBusy z c.args.who x t) (openers_are _ _ c.self.view_is) B) moves
+
 pub returns-in-Some-clause-openers : goal.returns-in-Some-clause-openers
 returns-in-Some-clause-openers c img size W = c.in-Some.ensures.stands img size (subst (λ z. Stands z img size) (sym (openers_are _ _ c.self.view_is)) W)
 
