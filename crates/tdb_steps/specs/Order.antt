@@ -14,6 +14,17 @@ abbrev pub NotFull : Reply → Type 0
 NotFull (Reply.Full len need) = ⊥
 NotFull reply = Unit {0}
 
+-- yes or no
+abbrev pub IsYesOrNo : Reply → Type 0
+IsYesOrNo Reply.Yes = Unit {0}
+IsYesOrNo Reply.No = Unit {0}
+IsYesOrNo reply = ⊥
+
+-- where a turn ends the question whether a key is there, it says yes or no, for which no memory is taken
+abbrev pub AnswersHas : Next → Type 0
+AnswersHas (Step stage) = Unit {0}
+AnswersHas (Done reply) = IsYesOrNo reply
+
 -- a look of a command that only looks ends it
 abbrev pub LookEnds : Next → Type 0
 LookEnds (Step stage) = ⊥

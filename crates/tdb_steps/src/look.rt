@@ -8,7 +8,7 @@ ghost use Rattle.tdb_space.specs.Accepted.{AcceptWith};
 ghost use Rattle.tdb_space.specs.Pairs.{map_of};
 ghost use Rattle.tdb_locks.specs.declared.turn.Reply.TheVariants as Reply;
 ghost use Rattle.tdb_steps.specs.Asked.{fetched, is_there};
-ghost use Rattle.tdb_steps.specs.Order.{NotFull};
+ghost use Rattle.tdb_steps.specs.Order.{IsYesOrNo, NotFull};
 
 use std::alloc::Global;
 use tdb_chain::{ValueRefusal, find, value};
@@ -44,6 +44,7 @@ pub(crate) fn has<S: Space>(s: &mut S, key: &[u8]) -> Result<Reply, Io>
     requires chains { 0 < (S.form s.old).chains }
     ensures told { IfOk result (λ reply. IsTrue S.tells → (hands : List HandPair) → AcceptWith (S.form s.old) (S.image s.old) hands
         → reply ≡ is_there (map_of (S.form s.old) (S.image s.old) key.now)) }
+    ensures says { IfOk result IsYesOrNo }
     ensures order { IfOk result NotFull }
     ensures looked { Looked S.Space s.old s.new }
     ensures cause { HasCause (S.faults s.old) (S.faults s.new) result }

@@ -6,7 +6,7 @@ ghost use Rattle.tdb_space.specs.Frame.{Looked};
 ghost use Rattle.tdb_steps.specs.Asked.{fetches, asks};
 ghost use Rattle.tdb_steps.specs.Stages.{OfLook, Leads};
 ghost use Rattle.tdb_steps.specs.Turns.{Makes, LooksRightly};
-ghost use Rattle.tdb_steps.specs.Order.{LookOrder};
+ghost use Rattle.tdb_steps.specs.Order.{AnswersHas, LookOrder};
 
 use crate::look::{fetch, has};
 use crate::stage::{Next, Stage};
@@ -38,13 +38,15 @@ pub fn fetch_turn<S: Space>(alloc: Global, stage: Stage, s: &mut S, key: &[u8]) 
     }
 }
 
-/// A turn of the question whether a key is there: as those of a fetch, but that no value is read and no memory taken.
+/// A turn of the question whether a key is there: as those of a fetch, but that no value is read and no memory taken. So
+/// it ends with `Yes` or `No`, whatever the bytes of the file are.
 pub fn has_turn<S: Space>(stage: Stage, s: &mut S, key: &[u8]) -> Result<Next, Io>
     requires key { length key.now < 2 ^ 32 }
     requires chains { 0 < (S.form s.old).chains }
     requires stage { OfLook stage }
     ensures made { IfOk result (λ next. IsTrue S.tells → Makes (S.form s.old) (S.image s.old) (S.image s.new) key.now asks stage next) }
     ensures rightly { IfOk result (LooksRightly stage) }
+    ensures says { IfOk result AnswersHas }
     ensures order { IfOk result (LookOrder stage) }
     ensures leads { IfOk result (Leads OfLook) }
     ensures looked { Looked S.Space s.old s.new }
