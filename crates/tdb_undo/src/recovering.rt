@@ -1,6 +1,6 @@
 // Recovery: what the undo area keeps is tested, written back, and the gate is shut.
 
-ghost use Rattle.std.specs.Prelude.{◌≡◌, ◌+◌, ◌*◌, ◌%◌, ◌^◌, ◌<◌, ◌≤◌, ◌⊎◌, false, IsTrue, IfOk, IfErr, OnOk, None, Some, length, if◌then◌else◌};
+ghost use Rattle.std.specs.Prelude.{◌≡◌, ◌≢◌, ◌+◌, ◌*◌, ◌%◌, ◌^◌, ◌<◌, ◌≤◌, ◌⊎◌, false, IsTrue, IfOk, IfErr, OnOk, None, Some, length, if◌then◌else◌};
 ghost use Rattle.tdb_disk.specs.Count.{HasCauseOf, RoseBy, RoseUpTo};
 ghost use Rattle.tdb_disk.specs.History.{seen};
 ghost use Rattle.tdb_disk.specs.Stop.{LeavesOnly, Quiet};
@@ -112,7 +112,7 @@ fn undo<D: Disk>(d: &mut D, h: &Header, area: &Area) -> Result<u64, UndoRefusal>
 /// `UndoBad` tells the first fault that the opening of the undo area meets; nothing is written then, nor where the gate
 /// isn't open, whatever the answer is. All is tested before anything is written. It takes time linear in what the area
 /// keeps, reads that twice, and takes no memory. After an undo three syncs were made where the area stands below the
-/// file's old length, and else six.
+/// file's old length, and else six: so bytes are told only where an undo was made, whatever the file tells.
 pub fn recover<D: Disk>(d: &mut D, h: &Header) -> Result<u64, UndoRefusal>
     requires heads { 48 ≤ D.size d.old }
     requires short { D.size d.old < 2 ^ 63 }
@@ -127,6 +127,7 @@ pub fn recover<D: Disk>(d: &mut D, h: &Header) -> Result<u64, UndoRefusal>
     ensures cause { HasCauseOf UndoRefusal.Io (D.faults d.old) (D.faults d.new) result }
     ensures syncs { OnOk result (IsTrue D.tells → RoseBy (recovery_syncs (form_in h.now) (seen (D.history d.old))) (D.syncs d.old) (D.syncs d.new)) }
     ensures at_most { OnOk result (RoseUpTo 6 (D.syncs d.old) (D.syncs d.new)) }
+    ensures made { IfOk result (λ n. n ≢ 0 → RoseBy 3 (D.syncs d.old) (D.syncs d.new) ⊎ RoseBy 6 (D.syncs d.old) (D.syncs d.new)) }
 {
     let Some(area) = read_area(d, h)? else {
         return Ok(0);

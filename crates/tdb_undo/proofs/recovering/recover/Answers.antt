@@ -1,6 +1,6 @@
 -- Nothing to undo, and an undo.
-use Rattle.std.proofs.Common.{◌≡◌, ◌≢◌, ◌%◌, true, false, Some, length, sym, subst, ◌∙◌, ap, arith, rules}
-use Rattle.std.specs.Prelude.{IfSome}
+use Rattle.std.proofs.Common.{◌≡◌, ◌≢◌, ◌%◌, ◌⊎◌, true, false, Some, Ok, Err, inl, inr, length, sym, subst, ◌∙◌, ap, arith, rules}
+use Rattle.std.specs.Prelude.{IfOk, IfSome, OnOk, Result}
 use Rattle.std.proofs.lemmas.Result.{err_from_is_err_and, IfOk-weaker, IfErr-weaker, on_ok_weaker}
 use Rattle.tdb_disk.specs.Count.{RoseBy}
 use Rattle.tdb_disk.specs.History.{seen}
@@ -168,3 +168,14 @@ pub returns-in_err-area-clause-bad : goal.returns-in_err-area-clause-bad
 returns-in_err-area-clause-bad g c =
     let p = err_from_is_err_and c.from_residual.result c.from_residual.ensures.1 in
     rw (p.1, p.2) (λ told. names_then c.in_err-area.field-0.0 _ _ (λ fault bad. (place_first (form_in c.args.h.now) (seen (g.D.Disk.history c.args.d.now)) fault bad, c.read_area.ensures.still)) (c.in_err-area.ensures.bad told))
+
+-- bytes are told only where an undo was made
+pub returns-clause-made : goal.returns-clause-made
+returns-clause-made g c =
+    made_by c.undo.result (λ n. n ≢ 0 → RoseBy 3 (g.D.Disk.syncs c.args.d.now) (g.D.Disk.syncs c.undo.new.d) ⊎ RoseBy 6 (g.D.Disk.syncs c.args.d.now) (g.D.Disk.syncs c.undo.new.d))
+    (λ syncs n some. subst (λ was. RoseBy 3 was (g.D.Disk.syncs c.undo.new.d) ⊎ RoseBy 6 was (g.D.Disk.syncs c.undo.new.d)) c.read_area.ensures.syncs
+    (elim syncs [ inl below ↦ inl below.1 | inr behind ↦ inr behind.1 ])) c.undo.ensures.syncs
+  where
+    made_by : {V E P : Type 0} (r : Result V E) (Q : V → Type 0) → (P → (v : V) → Q v) → OnOk r P → IfOk r Q
+    made_by (Ok v) Q from p = from p v
+    made_by (Err e) Q from p = tt
