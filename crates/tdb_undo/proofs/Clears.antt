@@ -2,6 +2,7 @@
 use Rattle.std.proofs.Common.{◌≡◌, Bool, true, false, not, ◌&&◌, None, Some, ℕ, zero, suc, ◌+◌, ◌-◌, ◌<◌, ◌≤◌, ◌⊎◌, ◌%◌, List, [], length, slice_index, refl, sym, ◌∙◌, ap, subst, inl, inr, arith}
 use Rattle.std.specs.Prelude.{◌==◌, if◌then◌else◌}
 use Rattle.std.proofs.lemmas.Bool.{cases_lt, cases_eq, eq-eqb, ne_eqb}
+use Rattle.tdb_disk.specs.Count.{RoseBy}
 use Rattle.tdb_disk.specs.History.{History, seen}
 use Rattle.tdb_disk.specs.Stop.{LeavesOnly, Quiet}
 use Rattle.tdb_disk.proofs.Runs.{leaves_weaker, leaves_join}
@@ -12,7 +13,7 @@ use Rattle.tdb_words.specs.declared.what.What.TheVariants.{AreaBad}
 use Rattle.tdb_space.specs.FirstFault.{Fault}
 use Rattle.tdb_space.proofs.FirstFault.Cleared.{stands_to, long_to}
 use Rattle.tdb_words.specs.Word.{word}
-use Rattle.tdb_words.specs.Header.{sequence_of}
+use Rattle.tdb_words.specs.Header.{sequence_of, area_head}
 use Rattle.tdb_words.proofs.Words.{word_agrees}
 use Rattle.tdb_space.specs.Form.{Form, form_of}
 use Rattle.tdb_space.specs.Record.{rec_len_of, magic_of}
@@ -32,7 +33,7 @@ use Rattle.tdb_space.proofs.Opening.Undone.{accepted_opens, read_as_it_is}
 use Rattle.tdb_undo.specs.Area.{place_fault}
 use Rattle.tdb_undo.specs.Torn.{TornIn, Put}
 use Rattle.tdb_undo.specs.Recovery.{HeaderTouched}
-use Rattle.tdb_undo.specs.Placing.{IsCleared}
+use Rattle.tdb_undo.specs.Placing.{IsCleared, clearing_syncs}
 use Rattle.tdb_undo.proofs.Lies.{lies, lies_not}
 
 -- what stays accepted reopens, where the sequence number stays
@@ -246,3 +247,10 @@ accepted_no_fault f a A e bad = elim (cases_eq (word f.order a 44) 0) [
     shut_tests : (b : Bool) (fault : Fault) → (if not b && false then Some fault else None) ≡ None
     shut_tests true fault = refl
     shut_tests false fault = refl
+
+-- to make an area zero takes two syncs, and none where there is no area
+pub clears_twice : (o : Order) (a : List ℕ) (before now : ℕ) → (word o a area_head ≡ 0 → ⊥) → RoseBy 2 before now → RoseBy (clearing_syncs o a) before now
+clears_twice o a before now some rose = rw (ne_eqb (word o a area_head) 0 some) rose
+
+pub clears_never : (o : Order) (a : List ℕ) (before : ℕ) → word o a area_head ≡ 0 → RoseBy (clearing_syncs o a) before before
+clears_never o a before none = rw none (record { no_less = omega (arith); no_more = omega (arith); never_falls = omega (arith) })

@@ -1,5 +1,5 @@
 -- A new undo area: what its placing leaves, and the file at the end.
-use Rattle.std.specs.Prelude.{◌≡◌, ℕ, ◌+◌, ◌%◌, ◌<◌, ◌≤◌, ◌⊎◌, List, length, slice_index}
+use Rattle.std.specs.Prelude.{◌≡◌, ℕ, ◌+◌, ◌%◌, ◌<◌, ◌≤◌, ◌⊎◌, ◌==◌, List, length, slice_index, if◌then◌else◌}
 use Rattle.tdb_words.specs.declared.word.Order.{Order}
 use Rattle.tdb_words.specs.Word.{word}
 use Rattle.tdb_words.specs.Header.{area_head}
@@ -44,3 +44,8 @@ pub record IsPlaced (f : Form) (a b : List ℕ) (at n : ℕ) : Type 0 where
   pub set : IsSet f.order b at n
   pub others : (i : ℕ) → i < length a → (i < area_head) ⊎ (area_head + 4 ≤ i) → times (area f.order a) i ≡ 0 → slice_index b i ≡ slice_index a i
   pub zeros : (i : ℕ) → (length a ≤ i) ⊎ (1 ≤ times (area f.order a) i) → (i < at + 4) ⊎ (at + 8 ≤ i) → slice_index b i ≡ 0
+
+-- how many syncs it takes to make the undo area of an image zero: one for its content and one for its header, and none
+-- where the image has no undo area
+abbrev pub clearing_syncs : Order → List ℕ → ℕ
+clearing_syncs o img = if word o img area_head == 0 then 0 else 2

@@ -7,7 +7,7 @@ ghost use Rattle.tdb_disk.specs.Stop.{LeavesOnly, Quiet};
 ghost use Rattle.tdb_space.specs.Form.{form_in, form_of};
 ghost use Rattle.tdb_space.specs.Accepted.{Accept};
 ghost use Rattle.tdb_space.specs.Undoing.{Reopens};
-ghost use Rattle.tdb_undo.specs.Placing.{Placing, IsSet, IsCleared, IsPlaced};
+ghost use Rattle.tdb_undo.specs.Placing.{Placing, IsSet, IsCleared, IsPlaced, clearing_syncs};
 
 use crate::area::{HEADER_LEN, RECOVERY_START, read_area};
 use crate::emptying::{blank_header, zero_content};
@@ -53,6 +53,7 @@ fn clear_area<D: Disk>(d: &mut D, h: &Header) -> Result<(), Io>
     ensures size { D.size d.new ≡ D.size d.old }
     ensures cause { HasCause (D.faults d.old) (D.faults d.new) result }
     ensures syncs { OnOk result ((D.syncs d.new ≡ D.syncs d.old) ⊎ RoseBy 2 (D.syncs d.old) (D.syncs d.new)) }
+    ensures as_often { OnOk result (IsTrue D.tells → let a = seen (D.history d.old) in Accept a → form_of a ≡ form_in h.now → RoseBy (clearing_syncs h.now.order a) (D.syncs d.old) (D.syncs d.new)) }
 {
     match read_area(d, h) {
         Ok(Some(area)) => {
@@ -85,6 +86,7 @@ pub fn ensure<D: Disk>(d: &mut D, h: &Header, capacity: u32, at: u64) -> Result<
     ensures size { OnOk result (D.size d.new ≡ at + 24 + capacity) }
     ensures cause { HasCause (D.faults d.old) (D.faults d.new) result }
     ensures syncs { OnOk result (RoseBy 3 (D.syncs d.old) (D.syncs d.new) ⊎ RoseBy 5 (D.syncs d.old) (D.syncs d.new)) }
+    ensures as_often { OnOk result (IsTrue D.tells → let a = seen (D.history d.old) in Accept a → form_of a ≡ form_in h.now → RoseBy (clearing_syncs h.now.order a + 3) (D.syncs d.old) (D.syncs d.new)) }
 {
     clear_area(d, h)?;
     place_area(d, h.order, at as u32, capacity)?;

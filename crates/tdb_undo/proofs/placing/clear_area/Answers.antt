@@ -1,6 +1,7 @@
 -- Both steps, or nothing to clear.
-use Rattle.std.proofs.Common.{◌≡◌, ◌≤◌, [], Some, sym, subst, ◌∙◌, ap, arith}
+use Rattle.std.proofs.Common.{rules, ◌≡◌, ◌≤◌, [], Some, sym, subst, ◌∙◌, ap, arith}
 use Rattle.std.specs.Prelude.{IfSome}
+use Rattle.tdb_disk.specs.Count.{RoseBy}
 use Rattle.tdb_disk.specs.History.{seen}
 use Rattle.tdb_disk.specs.Stop.{LeavesOnly, Quiet}
 use Rattle.tdb_disk.proofs.Runs.{leaves_quiet}
@@ -10,9 +11,9 @@ use Rattle.tdb_space.specs.Undoing.{Reopens}
 use Rattle.tdb_space.proofs.Undoing.Alike.{exact_reopens}
 use Rattle.tdb_undo.specs.Area.{AreaSeen, IsAreaOf, Stands, place_fault}
 use Rattle.tdb_undo.specs.Refusal.{Names}
-use Rattle.tdb_undo.specs.Placing.{IsCleared}
+use Rattle.tdb_undo.specs.Placing.{IsCleared, clearing_syncs}
 use Rattle.tdb_undo.proofs.Whole.{same_header}
-use Rattle.tdb_undo.proofs.Clears.{clear_one, clear_two, cleared_none, cleared_some, accepted_no_fault}
+use Rattle.tdb_undo.proofs.Clears.{clear_one, clear_two, cleared_none, cleared_some, clears_never, clears_twice, accepted_no_fault}
 use Rattle.tdb_undo.proofs.placing.clear_area.Goals as goal
 
 pub returns-in_err-zero_content-in-Ok-Some-clause-stops : goal.returns-in_err-zero_content-in-Ok-Some-clause-stops
@@ -82,5 +83,23 @@ returns-in-Err-UndoBad-clause-stops g c told quiet accepted is =
 
 pub returns-in-Err-UndoBad-clause-cleared : goal.returns-in-Err-UndoBad-clause-cleared
 returns-in-Err-UndoBad-clause-cleared g c told accepted is =
+    let fault = subst (λ e. Names e (λ f. place_fault (form_in c.args.h.now) (seen (g.D.Disk.history c.args.d.now)) ≡ Some f)) c.in-Err-UndoBad.field-0-is (c.in-Err-UndoBad.ensures.bad told) in
+    absurd (accepted_no_fault (form_in c.args.h.now) (seen (g.D.Disk.history c.args.d.now)) (subst (λ f. AcceptWith f (seen (g.D.Disk.history c.args.d.now)) []) is accepted) _ fault)
+
+pub returns-in_ok-blank_header-in-Ok-Some-clause-as_often : goal.returns-in_ok-blank_header-in-Ok-Some-clause-as_often
+returns-in_ok-blank_header-in-Ok-Some-clause-as_often g c told accepted is =
+    let a = seen (g.D.Disk.history c.args.d.now) in
+    let seen_area = subst (AreaSeen c.args.h.now.order a) c.in-Ok-Some.field-0-is (c.in-Ok-Some.ensures.found told).1 in
+    let stands = subst (λ o. IfSome o (Stands (form_in c.args.h.now) (g.D.Disk.size c.args.d.now))) c.in-Ok-Some.field-0-is c.in-Ok-Some.ensures.stands in
+    clears_twice c.args.h.now.order a _ _ (λ none. omega (arith, stands.above, seen_area.there, none)) (search rules)
+
+pub returns-in-Ok-None-clause-as_often : goal.returns-in-Ok-None-clause-as_often
+returns-in-Ok-None-clause-as_often g c told accepted is =
+    let a = seen (g.D.Disk.history c.args.d.now) in
+    let none = subst (AreaSeen c.args.h.now.order a) c.in-Ok-None.field-0-is (c.in-Ok-None.ensures.found told).1 in
+    subst (RoseBy (clearing_syncs c.args.h.now.order a) (g.D.Disk.syncs c.args.d.now)) (sym c.read_area.ensures.syncs) (clears_never c.args.h.now.order a (g.D.Disk.syncs c.args.d.now) none)
+
+pub returns-in-Err-UndoBad-clause-as_often : goal.returns-in-Err-UndoBad-clause-as_often
+returns-in-Err-UndoBad-clause-as_often g c told accepted is =
     let fault = subst (λ e. Names e (λ f. place_fault (form_in c.args.h.now) (seen (g.D.Disk.history c.args.d.now)) ≡ Some f)) c.in-Err-UndoBad.field-0-is (c.in-Err-UndoBad.ensures.bad told) in
     absurd (accepted_no_fault (form_in c.args.h.now) (seen (g.D.Disk.history c.args.d.now)) (subst (λ f. AcceptWith f (seen (g.D.Disk.history c.args.d.now)) []) is accepted) _ fault)

@@ -27,3 +27,9 @@ returns-clause-placed g c told accepted is =
     let cleared = c.in_ok-clear_area.ensures.cleared told accepted is in
     let set = c.in_ok-place_area.ensures.set told (ap (λ n. n % 4) cleared.size ∙ accepted.sized) in
     placed (form_in c.args.h.now) (seen (g.D.Disk.history c.args.d.now)) (seen (g.D.Disk.history c.clear_area.new.d)) c.args.at accepted is cleared (omega (arith, g.met.D.Disk.told_size c.args.d.now told, c.requires.behind)) c.requires.aligned (seen (g.D.Disk.history c.place_area.new.d)) c.args.capacity set.0 set.1
+
+pub returns-clause-as_often : goal.returns-clause-as_often
+returns-clause-as_often g c told accepted is =
+    let cleared = c.in_ok-clear_area.ensures.as_often told accepted is in
+    let set = c.in_ok-place_area.ensures.syncs in
+    record { no_less = omega (arith, cleared.no_less, set.no_less); no_more = omega (arith, cleared.no_more, set.no_more); never_falls = omega (arith, cleared.never_falls, set.never_falls) }
