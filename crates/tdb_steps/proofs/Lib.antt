@@ -1,6 +1,7 @@
 pub mod Cells
 pub mod Walks
 pub mod Made
+pub mod Reading
 pub mod Stopped
 pub mod Appended
 pub mod Rooms

@@ -1,5 +1,6 @@
 pub mod Asked
 pub mod Stages
+pub mod Reads
 pub mod Walks
 pub mod Turns
 pub mod Wiped

@@ -1,6 +1,6 @@
 // A turn of a command without its locks.
 
-ghost use Rattle.std.specs.Prelude.{◌≡◌, ◌≤◌, ◌<◌, ◌^◌, true, false, IsTrue, IfOk, OnErr};
+ghost use Rattle.std.specs.Prelude.{◌≡◌, ◌≤◌, ◌<◌, ◌^◌, true, false, IsTrue, IfOk, OnErr, List};
 ghost use Rattle.tdb_disk.specs.Count.{HasCause};
 ghost use Rattle.tdb_space.specs.Frame.{Looked, Wrote};
 ghost use Rattle.tdb_steps.specs.Stages.{Leads, IsIdle, CanCount};
@@ -8,6 +8,9 @@ ghost use Rattle.tdb_law.specs.MapCommands.{map_changes};
 ghost use Rattle.tdb_steps.specs.PlainCommands.{command_of};
 ghost use Rattle.tdb_steps.specs.Order.{InOrder};
 ghost use Rattle.tdb_steps.specs.Machines.{IsShort, IsShortWhole, IsFit, CommandMakes, CommandStops, CommandRightly};
+ghost use Rattle.tdb_steps.specs.Reads.{TurnReads, look_reads};
+ghost use Rattle.tdb_space.specs.Extents.{HandPair};
+ghost use Rattle.tdb_space.specs.Accepted.{AcceptWith};
 
 use crate::append_turns::append_turn;
 use crate::deleting::delete_turn;
@@ -52,6 +55,7 @@ pub(crate) fn act<S: Space>(
     ensures wrote { Wrote S.Space s.old s.new }
     ensures cause { HasCause (S.faults s.old) (S.faults s.new) result }
     ensures bytes_read { S.bytes_read s.old ≤ S.bytes_read s.new }
+    ensures reads { IsTrue S.tells → (hands : List HandPair) → AcceptWith (S.form s.old) (S.image s.old) hands → TurnReads (look_reads (S.form s.old) (S.image s.old) command.now) 0 stage (S.bytes_read s.old) (S.bytes_read s.new) }
 {
     match command {
         Plain::Fetch { key } => fetch_turn(alloc, stage, s, key.as_slice()),

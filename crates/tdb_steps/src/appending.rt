@@ -1,7 +1,7 @@
 // The turn of an append that looks its key up.
 
 ghost use Rattle.std.specs.Prelude.{◌≡◌, ◌≤◌, ◌<◌, ◌+◌, ◌^◌, ◌⊎◌, ℕ, List, [], IsTrue, IfOk, IfSome, OnErr, Some, length, unwrap_or};
-ghost use Rattle.tdb_disk.specs.Count.{HasCause};
+ghost use Rattle.tdb_disk.specs.Count.{HasCause, RoseUpTo};
 ghost use Rattle.tdb_space.specs.Frame.{Wrote, Looked};
 ghost use Rattle.tdb_space.specs.Extents.{HandPair};
 ghost use Rattle.tdb_space.specs.Accepted.{AcceptWith};
@@ -15,6 +15,8 @@ ghost use Rattle.tdb_steps.specs.Order.{LooksOn};
 ghost use Rattle.tdb_steps.specs.declared.stage.Stage.TheVariants as Stage;
 ghost use Rattle.tdb_steps.specs.declared.stage.Next.TheVariants as Next;
 ghost use Rattle.tdb_locks.specs.declared.turn.Reply.TheVariants as Reply;
+ghost use Rattle.tdb_steps.specs.Reads.{look_reads};
+ghost use Rattle.tdb_steps.specs.declared.plain.Plain.TheVariants.{Append};
 
 use crate::looking::update_found;
 use crate::stage::{Next, Stage};
@@ -38,7 +40,7 @@ fn joined_value<S: Space>(
     ensures as_long { IfOk result (λ made. IfSome made (λ bytes. length bytes ≡ place.now.rec.data_len + length more.now)) }
     ensures looked { Looked S.Space s.old s.new }
     ensures cause { HasCause (S.faults s.old) (S.faults s.new) result }
-    ensures bytes_read { S.bytes_read s.old ≤ S.bytes_read s.new }
+    ensures bytes_read { RoseUpTo (place.now.rec.data_len) (S.bytes_read s.old) (S.bytes_read s.new) }
 {
     let mut bytes = match value(alloc, s, place) {
         Ok(bytes) => bytes,
@@ -79,6 +81,7 @@ pub fn look_to_append<S: Space>(
     ensures wrote { Wrote S.Space s.old s.new }
     ensures cause { HasCause (S.faults s.old) (S.faults s.new) result }
     ensures bytes_read { S.bytes_read s.old ≤ S.bytes_read s.new }
+    ensures reads { IsTrue S.tells → (hands : List HandPair) → AcceptWith (S.form s.old) (S.image s.old) hands → RoseUpTo (look_reads (S.form s.old) (S.image s.old) (Append key.now more.now)) (S.bytes_read s.old) (S.bytes_read s.new) }
 {
     *whole = None;
     let Some(place) = find(s, key)? else {

@@ -7,6 +7,8 @@ ghost use Rattle.tdb_steps.specs.Asked.{deletes};
 ghost use Rattle.tdb_steps.specs.Stages.{OfDelete, Leads, IsIdle, CanCount};
 ghost use Rattle.tdb_steps.specs.Turns.{Makes, Stops, DeletesRightly};
 ghost use Rattle.tdb_steps.specs.Order.{DeleteOrder};
+ghost use Rattle.tdb_steps.specs.Reads.{TurnReads, look_reads};
+ghost use Rattle.tdb_steps.specs.declared.plain.Plain.TheVariants.{Delete};
 
 use crate::giving::give_back;
 use crate::looking::look_to_delete;
@@ -41,6 +43,7 @@ pub fn delete_turn<S: Space>(
     ensures wrote { Wrote S.Space s.old s.new }
     ensures cause { HasCause (S.faults s.old) (S.faults s.new) result }
     ensures bytes_read { S.bytes_read s.old ≤ S.bytes_read s.new }
+    ensures reads { IsTrue S.tells → TurnReads (look_reads (S.form s.old) (S.image s.old) (Delete key.now)) 0 stage (S.bytes_read s.old) (S.bytes_read s.new) }
 {
     match stage {
         Stage::Begun => Ok(Next::Step(Stage::Chained)),

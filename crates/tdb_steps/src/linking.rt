@@ -1,7 +1,7 @@
 // The turn of a store that links the new record and takes the old one out.
 
 ghost use Rattle.std.specs.Prelude.{◌≡◌, ◌≤◌, ◌<◌, ◌+◌, ◌/◌, ◌^◌, ℕ, List, [], ◌∷◌, IsTrue, IfOk, IfSome, OnErr, Some, length};
-ghost use Rattle.tdb_disk.specs.Count.{HasCause};
+ghost use Rattle.tdb_disk.specs.Count.{HasCause, RoseUpTo};
 ghost use Rattle.tdb_space.specs.Frame.{Wrote};
 ghost use Rattle.tdb_space.specs.Spare.{RoomForAll};
 ghost use Rattle.tdb_space.specs.Extents.{HandPair};
@@ -14,6 +14,8 @@ ghost use Rattle.tdb_steps.specs.Order.{LinksOn};
 ghost use Rattle.tdb_steps.specs.declared.flag.Flag.{Flag};
 ghost use Rattle.tdb_steps.specs.declared.stage.Stage.TheVariants as Stage;
 ghost use Rattle.tdb_steps.specs.declared.stage.Next.TheVariants as Next;
+ghost use Rattle.tdb_chain.specs.Reads.{write_reads};
+ghost use Rattle.tdb_steps.specs.Reads.{link_reads};
 
 use crate::stage::{Next, Stage};
 use tdb_chain::{Place, link, mark_dead};
@@ -43,7 +45,7 @@ fn link_over<S: Space>(
     ensures size { S.size s.new ≡ S.size s.old }
     ensures wrote { Wrote S.Space s.old s.new }
     ensures cause { HasCause (S.faults s.old) (S.faults s.new) result }
-    ensures bytes_read { S.bytes_read s.old ≤ S.bytes_read s.new }
+    ensures bytes_read { RoseUpTo (4 + write_reads (6 + hand.1 / 4096) (32 + hand.1)) (S.bytes_read s.old) (S.bytes_read s.new) }
 {
     match link(s, hand, key, value, over)? {
         Some(old) => Ok(Next::Step(Stage::Changed(old))),
@@ -72,7 +74,7 @@ fn link_beside<S: Space>(
     ensures size { S.size s.new ≡ S.size s.old }
     ensures wrote { Wrote S.Space s.old s.new }
     ensures cause { HasCause (S.faults s.old) (S.faults s.new) result }
-    ensures bytes_read { S.bytes_read s.old ≤ S.bytes_read s.new }
+    ensures bytes_read { RoseUpTo (link_reads hand) (S.bytes_read s.old) (S.bytes_read s.new) }
 {
     if let Err(fault) = mark_dead(s, &old) {
         hand.end();
@@ -103,7 +105,7 @@ pub(crate) fn link_new<S: Space>(
     ensures size { S.size s.new ≡ S.size s.old }
     ensures wrote { Wrote S.Space s.old s.new }
     ensures cause { HasCause (S.faults s.old) (S.faults s.new) result }
-    ensures bytes_read { S.bytes_read s.old ≤ S.bytes_read s.new }
+    ensures bytes_read { RoseUpTo (link_reads hand) (S.bytes_read s.old) (S.bytes_read s.new) }
 {
     match found {
         Some(old) => {

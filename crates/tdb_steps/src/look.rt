@@ -1,7 +1,7 @@
 // The turn of a command that only looks.
 
-ghost use Rattle.std.specs.Prelude.{◌≡◌, ◌<◌, ◌≤◌, ◌^◌, ◌⊎◌, ℕ, List, IsTrue, length, IfOk};
-ghost use Rattle.tdb_disk.specs.Count.{HasCause};
+ghost use Rattle.std.specs.Prelude.{◌≡◌, ◌<◌, ◌≤◌, ◌^◌, ◌⊎◌, ℕ, List, IsTrue, length, IfOk, ◌+◌};
+ghost use Rattle.tdb_disk.specs.Count.{HasCause, RoseUpTo};
 ghost use Rattle.tdb_space.specs.Frame.{Looked};
 ghost use Rattle.tdb_space.specs.Extents.{HandPair};
 ghost use Rattle.tdb_space.specs.Accepted.{AcceptWith};
@@ -9,6 +9,8 @@ ghost use Rattle.tdb_space.specs.Pairs.{map_of};
 ghost use Rattle.tdb_locks.specs.declared.turn.Reply.TheVariants as Reply;
 ghost use Rattle.tdb_steps.specs.Asked.{fetched, is_there};
 ghost use Rattle.tdb_steps.specs.Order.{IsYesOrNo, NotFull};
+ghost use Rattle.tdb_chain.specs.Reads.{find_reads};
+ghost use Rattle.tdb_steps.specs.Reads.{value_length};
 
 use std::alloc::Global;
 use tdb_chain::{ValueRefusal, find, value};
@@ -27,6 +29,7 @@ pub(crate) fn fetch<S: Space>(alloc: Global, s: &mut S, key: &[u8]) -> Result<Re
     ensures looked { Looked S.Space s.old s.new }
     ensures cause { HasCause (S.faults s.old) (S.faults s.new) result }
     ensures bytes_read { S.bytes_read s.old ≤ S.bytes_read s.new }
+    ensures reads { IsTrue S.tells → (hands : List HandPair) → AcceptWith (S.form s.old) (S.image s.old) hands → RoseUpTo (find_reads (S.form s.old) (S.image s.old) key.now + value_length (S.form s.old) (S.image s.old) key.now) (S.bytes_read s.old) (S.bytes_read s.new) }
 {
     let Some(place) = find(s, key)? else {
         return Ok(Reply::KeyMissing);
@@ -49,6 +52,7 @@ pub(crate) fn has<S: Space>(s: &mut S, key: &[u8]) -> Result<Reply, Io>
     ensures looked { Looked S.Space s.old s.new }
     ensures cause { HasCause (S.faults s.old) (S.faults s.new) result }
     ensures bytes_read { S.bytes_read s.old ≤ S.bytes_read s.new }
+    ensures reads { IsTrue S.tells → RoseUpTo (find_reads (S.form s.old) (S.image s.old) key.now) (S.bytes_read s.old) (S.bytes_read s.new) }
 {
     match find(s, key)? {
         Some(_place) => Ok(Reply::Yes),

@@ -1,7 +1,7 @@
 // The turns of changing commands that look a key up.
 
 ghost use Rattle.std.specs.Prelude.{◌≡◌, ◌≤◌, ◌<◌, ◌+◌, ◌++◌, ◌^◌, ℕ, List, [], IsTrue, IfOk, IfSome, OnErr, Some, length};
-ghost use Rattle.tdb_disk.specs.Count.{HasCause};
+ghost use Rattle.tdb_disk.specs.Count.{HasCause, RoseUpTo};
 ghost use Rattle.tdb_space.specs.Frame.{Wrote};
 ghost use Rattle.tdb_space.specs.Extents.{HandPair};
 ghost use Rattle.tdb_space.specs.Accepted.{AcceptWith};
@@ -12,6 +12,7 @@ ghost use Rattle.tdb_steps.specs.Turns.{Makes, TurnMade, TurnStopped, UpdatesRig
 ghost use Rattle.tdb_steps.specs.Order.{LooksOn};
 ghost use Rattle.tdb_steps.specs.declared.flag.Flag.{Flag};
 ghost use Rattle.tdb_steps.specs.declared.stage.Stage.TheVariants as Stage;
+ghost use Rattle.tdb_chain.specs.Reads.{find_reads, write_reads};
 
 use crate::flag::Flag;
 use crate::stage::{Next, Stage};
@@ -35,7 +36,7 @@ pub(crate) fn update_found<S: Space>(s: &mut S, place: Place, value: &[u8]) -> R
     ensures size { S.size s.new ≡ S.size s.old }
     ensures wrote { Wrote S.Space s.old s.new }
     ensures cause { HasCause (S.faults s.old) (S.faults s.new) result }
-    ensures bytes_read { S.bytes_read s.old ≤ S.bytes_read s.new }
+    ensures bytes_read { RoseUpTo (write_reads 2 (4 + length value.now)) (S.bytes_read s.old) (S.bytes_read s.new) }
 {
     let need = place.rec.key_len as u64 + value.len() as u64 + 4;
     if need > place.rec.rec_len as u64 {
@@ -62,7 +63,7 @@ fn mark_found<S: Space>(s: &mut S, place: Place) -> Result<Next, Io>
     ensures size { S.size s.new ≡ S.size s.old }
     ensures wrote { Wrote S.Space s.old s.new }
     ensures cause { HasCause (S.faults s.old) (S.faults s.new) result }
-    ensures bytes_read { S.bytes_read s.old ≤ S.bytes_read s.new }
+    ensures bytes_read { RoseUpTo (write_reads 1 4) (S.bytes_read s.old) (S.bytes_read s.new) }
 {
     let Ok(()) = s.ready(2, 8) else {
         return Ok(Next::Done(Reply::Memory));
@@ -92,6 +93,7 @@ pub(crate) fn look_to_store<S: Space>(
     ensures wrote { Wrote S.Space s.old s.new }
     ensures cause { HasCause (S.faults s.old) (S.faults s.new) result }
     ensures bytes_read { S.bytes_read s.old ≤ S.bytes_read s.new }
+    ensures reads { IsTrue S.tells → RoseUpTo (find_reads (S.form s.old) (S.image s.old) key.now + write_reads 2 (4 + length value.now)) (S.bytes_read s.old) (S.bytes_read s.new) }
 {
     let Some(place) = find(s, key)? else {
         if flag == Flag::Modify {
@@ -120,6 +122,7 @@ pub(crate) fn look_to_delete<S: Space>(s: &mut S, key: &[u8], stood_on: &Spots) 
     ensures wrote { Wrote S.Space s.old s.new }
     ensures cause { HasCause (S.faults s.old) (S.faults s.new) result }
     ensures bytes_read { S.bytes_read s.old ≤ S.bytes_read s.new }
+    ensures reads { IsTrue S.tells → RoseUpTo (find_reads (S.form s.old) (S.image s.old) key.now + write_reads 1 4) (S.bytes_read s.old) (S.bytes_read s.new) }
 {
     let Some(place) = find(s, key)? else {
         return Ok(Next::Done(Reply::KeyMissing));

@@ -15,6 +15,7 @@ ghost use Rattle.tdb_steps.specs.LockRows.{rows_of, row_at, locks_in, AllStandAl
 ghost use Rattle.tdb_steps.specs.Holdings.{HoldsBefore, LocksTurned};
 ghost use Rattle.tdb_steps.specs.Machines.{begun, IsShort, Fits, is_counted, IsQuiet, DoingKnows, MachineTurned, MachineStopped, MapRow, Leaves};
 ghost use Rattle.tdb_steps.specs.LockTurns.{LockLed, ActLed, ActRightly};
+ghost use Rattle.tdb_steps.specs.Reads.{TurnReads, look_reads, number_reads};
 
 use crate::acting::act;
 use crate::counting::count;
@@ -185,6 +186,7 @@ impl Machine {
         ensures wrote { Wrote S.Space s.old s.new }
         ensures cause { HasCause (S.faults s.old) (S.faults s.new) result }
         ensures bytes_read { S.bytes_read s.old ≤ S.bytes_read s.new }
+        ensures reads { IsTrue S.tells → (hands : List HandPair) → AcceptWith (S.form s.old) (S.image s.old) hands → TurnReads (look_reads (S.form s.old) (S.image s.old) self.old.command) number_reads self.old.stage (S.bytes_read s.old) (S.bytes_read s.new) }
     {
         let stage = mem::replace(&mut self.stage, Stage::Begun);
         let mut whole = self.whole.take();
@@ -265,6 +267,7 @@ impl Machine {
         ensures wrote { Wrote S.Space s.old s.new }
         ensures cause { HasCause (S.faults s.old) (S.faults s.new) result }
         ensures bytes_read { S.bytes_read s.old ≤ S.bytes_read s.new }
+        ensures reads { IsTrue S.tells → (hands : List HandPair) → AcceptWith (S.form s.old) (S.image s.old) hands → TurnReads (look_reads (S.form s.old) (S.image s.old) self.old.command) number_reads self.old.stage (S.bytes_read s.old) (S.bytes_read s.new) }
     {
         let rows = self.rows();
         if let Some(row) = self.wanted(&rows) {

@@ -8,6 +8,8 @@ ghost use Rattle.tdb_steps.specs.Asked.{stores};
 ghost use Rattle.tdb_steps.specs.Stages.{OfStore, Leads, IsIdle, CanCount};
 ghost use Rattle.tdb_steps.specs.Turns.{Makes, Stops, StoresRightly};
 ghost use Rattle.tdb_steps.specs.Order.{StoreOrder};
+ghost use Rattle.tdb_steps.specs.Reads.{TurnReads, look_reads};
+ghost use Rattle.tdb_steps.specs.declared.plain.Plain.TheVariants.{Store};
 
 use crate::flag::Flag;
 use crate::giving::give_back;
@@ -55,6 +57,7 @@ pub fn store_turn<S: Space>(
     ensures wrote { Wrote S.Space s.old s.new }
     ensures cause { HasCause (S.faults s.old) (S.faults s.new) result }
     ensures bytes_read { S.bytes_read s.old ≤ S.bytes_read s.new }
+    ensures reads { IsTrue S.tells → TurnReads (look_reads (S.form s.old) (S.image s.old) (Store key.now value.now flag)) 0 stage (S.bytes_read s.old) (S.bytes_read s.new) }
 {
     match stage {
         Stage::Begun => Ok(Next::Step(Stage::Chained)),

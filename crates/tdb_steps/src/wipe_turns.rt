@@ -10,6 +10,7 @@ ghost use Rattle.tdb_steps.specs.Turns.{WipeMakes, WipesRightly};
 ghost use Rattle.tdb_steps.specs.Order.{WipeOrder};
 ghost use Rattle.tdb_steps.specs.declared.stage.Stage.TheVariants as Stage;
 ghost use Rattle.tdb_steps.specs.declared.stage.WipeStage.TheVariants as WipeStage;
+ghost use Rattle.tdb_steps.specs.Reads.{TurnReads};
 
 use crate::stage::{Next, Stage, WipeStage};
 use crate::wiping::{wipe, wipe_bytes, wipe_writes};
@@ -34,6 +35,7 @@ pub fn wipe_turn<S: Space>(stage: Stage, s: &mut S) -> Result<Next, Io>
     ensures wrote { Wrote S.Space s.old s.new }
     ensures cause { HasCause (S.faults s.old) (S.faults s.new) result }
     ensures bytes_read { S.bytes_read s.old ≤ S.bytes_read s.new }
+    ensures reads { TurnReads 0 0 stage (S.bytes_read s.old) (S.bytes_read s.new) }
 {
     match stage {
         Stage::Begun => Ok(Next::Step(Stage::Wiping(WipeStage::Records))),

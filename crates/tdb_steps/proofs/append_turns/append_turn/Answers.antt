@@ -75,6 +75,7 @@ returns-in_default g c =
       wrote = c.store_joined.ensures.wrote;
       cause = c.store_joined.ensures.cause;
       bytes_read = c.store_joined.ensures.bytes_read;
+      reads = λ told hands A. c.store_joined.ensures.reads told _ c.in_default.not-Chained;
     }
 
 pub returns-in-Chained-clause-stopped : goal.returns-in-Chained-clause-stopped

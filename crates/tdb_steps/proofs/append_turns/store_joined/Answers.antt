@@ -4,6 +4,7 @@ use Rattle.std.specs.Prelude.{◌^◌, IsTrue, IfOk, unwrap_or}
 use Rattle.tdb_steps.specs.Asked.{stores}
 use Rattle.tdb_steps.specs.Turns.{Makes}
 use Rattle.tdb_steps.specs.declared.flag.Flag.TheVariants as Flags
+use Rattle.tdb_steps.proofs.Reading.{other_turn}
 use Rattle.tdb_steps.proofs.append_turns.store_joined.Goals as goal
 
 pub returns-in-Some-clause-made : goal.returns-in-Some-clause-made
@@ -15,3 +16,9 @@ pub returns-in-None-clause-made : goal.returns-in-None-clause-made
 returns-in-None-clause-made g c =
     subst (λ v. IfOk c.store_turn-in-None.result (λ next. IsTrue g.S.Space.tells → g.S.Space.size c.args.s.now < 2 ^ 32 → Makes (g.S.Space.form c.args.s.now) (g.S.Space.image c.args.s.now) (g.S.Space.image c.store_turn-in-None.new.s) c.args.key.now (stores Flags.Replace v) c.args.stage next))
     (sym (ap (λ w. unwrap_or w c.args.more.now) c.in-None.is)) c.store_turn-in-None.ensures.made
+
+pub returns-in-Some-clause-reads : goal.returns-in-Some-clause-reads
+returns-in-Some-clause-reads g c told look not = other_turn _ look 0 c.args.stage (g.S.Space.bytes_read c.args.s.now) (g.S.Space.bytes_read c.store_turn.new.s) not (c.store_turn.ensures.reads told)
+
+pub returns-in-None-clause-reads : goal.returns-in-None-clause-reads
+returns-in-None-clause-reads g c told look not = other_turn _ look 0 c.args.stage (g.S.Space.bytes_read c.args.s.now) (g.S.Space.bytes_read c.store_turn-in-None.new.s) not (c.store_turn-in-None.ensures.reads told)

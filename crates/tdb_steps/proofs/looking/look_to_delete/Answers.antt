@@ -1,5 +1,5 @@
 -- The record that was found is marked as dead, or the delete goes on with it.
-use Rattle.std.proofs.Common.{ℕ, List, [], Some, refl, subst}
+use Rattle.std.proofs.Common.{ℕ, List, [], Some, refl, subst, arith}
 use Rattle.std.specs.Prelude.{IsTrue}
 use Rattle.std.proofs.lemmas.Result.{IfOk-weaker, on_err_weaker}
 use Rattle.tdb_space.specs.Extents.{HandPair}
@@ -14,6 +14,7 @@ use Rattle.tdb_steps.proofs.Made.{moved, same_made, delete_known, marked_rightly
 use Rattle.tdb_space.proofs.Results.{on_err}
 use Rattle.tdb_chain.specs.Place.{HoldsKey}
 use Rattle.tdb_steps.proofs.Stopped.{stopped_nothing}
+use Rattle.tdb_chain.proofs.Rising.{rose_then}
 use Rattle.tdb_steps.proofs.looking.look_to_delete.Goals as goal
 
 pub returns-then-has-clause-made : goal.returns-then-has-clause-made
@@ -69,3 +70,7 @@ returns-then-has-clause-stopped g c =
     moved (λ x img. (key : List ℕ) (others : List HandPair) → AcceptWith x img others → HoldsKey x img key place → TurnStopped x img b key []) f (g.S.Space.form c.find.new.s) a (g.S.Space.image c.find.new.s)
     c.find.ensures.looked.form c.find.ensures.looked.image (stopped told) key others A (subst (IsFound f a key) c.in-Some.is (c.in_ok-place.ensures.found told others A)))
     c.mark_found.ensures.stopped
+
+-- what was read
+pub returns-then-has-clause-reads : goal.returns-then-has-clause-reads
+returns-then-has-clause-reads g c told = rose_then _ _ _ _ _ _ (c.find.ensures.reads told) c.mark_found.ensures.bytes_read (omega arith)

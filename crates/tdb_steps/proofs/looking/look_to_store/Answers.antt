@@ -1,5 +1,5 @@
 -- The store goes on with the record that was found, or has updated it.
-use Rattle.std.proofs.Common.{ℕ, List, [], Some, length, subst, rules}
+use Rattle.std.proofs.Common.{ℕ, List, [], Some, length, subst, rules, arith}
 use Rattle.std.specs.Prelude.{IsTrue}
 use Rattle.std.proofs.lemmas.Result.{IfOk-weaker, on_err_weaker}
 use Rattle.tdb_space.specs.Extents.{HandPair}
@@ -14,6 +14,7 @@ use Rattle.tdb_steps.proofs.Made.{moved, store_known}
 use Rattle.tdb_space.proofs.Results.{on_err}
 use Rattle.tdb_chain.specs.Place.{HoldsKey}
 use Rattle.tdb_steps.proofs.Stopped.{stopped_nothing}
+use Rattle.tdb_chain.proofs.Rising.{rose_then}
 use Rattle.tdb_steps.proofs.looking.look_to_store.Goals as goal
 
 pub returns-clause-made : goal.returns-clause-made
@@ -65,3 +66,7 @@ returns-clause-stopped g c =
     moved (λ x img. (key : List ℕ) (others : List HandPair) → AcceptWith x img others → HoldsKey x img key place → TurnStopped x img b key []) f (g.S.Space.form c.find.new.s) a (g.S.Space.image c.find.new.s)
     c.find.ensures.looked.form c.find.ensures.looked.image (stopped told) key others A (subst (IsFound f a key) c.in-Some.is (c.in_ok-place.ensures.found told others A)))
     c.update_found.ensures.stopped
+
+-- what was read
+pub returns-clause-reads : goal.returns-clause-reads
+returns-clause-reads g c told = rose_then _ _ _ _ _ _ (c.find.ensures.reads told) c.update_found.ensures.bytes_read (omega arith)

@@ -1,8 +1,8 @@
 -- A turn without a lock is that of the command, with the stage and the joined bytes taken out and put back.
-use Rattle.std.proofs.Common.{◌≡◌, ◌&&◌, List, ◌∙◌, ap, sym, subst}
+use Rattle.std.proofs.Common.{◌≡◌, ◌&&◌, List, ◌∙◌, ap, sym, subst, arith}
 use Rattle.tdb_steps.specs.declared.stage.Stage.{Stage}
 use Rattle.tdb_steps.specs.declared.stage.Next.{Next}
-use Rattle.tdb_steps.specs.Machines.{begun, IsShort, Fits, Counted}
+use Rattle.tdb_steps.specs.Machines.{Doing, begun, IsShort, Fits, Counted}
 use Rattle.tdb_steps.proofs.Turning.{act_stepped, act_ended, act_broke, act_halted, rightly_stepped, rightly_ended}
 use Rattle.tdb_space.specs.Extents.{HandPair}
 use Rattle.tdb_space.specs.Accepted.{AcceptWith}
@@ -13,6 +13,8 @@ use Rattle.tdb_steps.specs.PlainCommands.{command_of}
 use Rattle.tdb_steps.proofs.Counted.{end_rightly, begun_fits}
 use Rattle.tdb_steps.proofs.Rowed.{act_row}
 use Rattle.tdb_space.proofs.Results.{on_err}
+use Rattle.tdb_steps.specs.Reads.{look_reads, number_reads, TurnReads}
+use Rattle.tdb_steps.proofs.Reading.{read_besides}
 use Rattle.tdb_steps.proofs.machine.Machine.act_turn.Goals as goal
 
 pub returns-in-Step-clause-made : goal.returns-in-Step-clause-made
@@ -84,3 +86,40 @@ returns-in_err-count-in-Done-clause-stopped g c = on_err c.from_residual-in_err-
     act_halted (g.S.Space.form c.args.s.now) (g.S.Space.image c.args.s.now) m c.self.inside.command c.self.inside.chain c.self.inside.seqnum n c.self.inside.stage c.replace-stage.result c.self.inside.whole c.take-whole.result c.act.new.whole c.in_ok-next.field-0 c.args.self.now c.args.self.now others
     (sym c.self.view_is) c.replace-stage.ensures.value c.take-whole.ensures.value c.in_ok-next.ensures.order (c.in_ok-next.ensures.made told small) b c.in-Done.reply c.in-Done.is
     (subst (λ x. (hands : List HandPair) → AcceptWith x m hands → ChainsStay x m b hands) c.act.ensures.wrote.form (c.in_err-count-in-Done.ensures.stopped told)) is may A K))
+
+-- what was read
+pub returns-in-Step-clause-reads : goal.returns-in-Step-clause-reads
+returns-in-Step-clause-reads g c told hands A =
+    let f = g.S.Space.form c.args.s.now in
+    let img = g.S.Space.image c.args.s.now in
+    let before = g.S.Space.bytes_read c.args.s.now in
+    let act = (subst (λ x. TurnReads (look_reads f img c.self.inside.command) 0 x before (g.S.Space.bytes_read c.act.new.s)) c.replace-stage.ensures.value (c.act.ensures.reads told hands A)) in
+    subst (λ (d : Doing). TurnReads (look_reads f img d.command) number_reads d.stage before (g.S.Space.bytes_read c.act.new.s)) c.self.view_is
+    (read_besides (look_reads f img c.self.inside.command) 0 number_reads c.self.inside.stage before (g.S.Space.bytes_read c.act.new.s) (g.S.Space.bytes_read c.act.new.s) act (record { no_more = omega arith; never_falls = omega arith }) (omega arith))
+
+pub returns-in_ok-count-in-Done-clause-reads : goal.returns-in_ok-count-in-Done-clause-reads
+returns-in_ok-count-in-Done-clause-reads g c told hands A =
+    let f = g.S.Space.form c.args.s.now in
+    let img = g.S.Space.image c.args.s.now in
+    let before = g.S.Space.bytes_read c.args.s.now in
+    let act = (subst (λ x. TurnReads (look_reads f img c.self.inside.command) 0 x before (g.S.Space.bytes_read c.act.new.s)) c.replace-stage.ensures.value (c.act.ensures.reads told hands A)) in
+    subst (λ (d : Doing). TurnReads (look_reads f img d.command) number_reads d.stage before (g.S.Space.bytes_read c.count.new.s)) c.self.view_is
+    (read_besides (look_reads f img c.self.inside.command) number_reads number_reads c.self.inside.stage before (g.S.Space.bytes_read c.act.new.s) (g.S.Space.bytes_read c.count.new.s) act c.count.ensures.bytes_read (omega arith))
+
+pub returns-in_err-next-clause-reads : goal.returns-in_err-next-clause-reads
+returns-in_err-next-clause-reads g c told hands A =
+    let f = g.S.Space.form c.args.s.now in
+    let img = g.S.Space.image c.args.s.now in
+    let before = g.S.Space.bytes_read c.args.s.now in
+    let act = (subst (λ x. TurnReads (look_reads f img c.self.inside.command) 0 x before (g.S.Space.bytes_read c.act.new.s)) c.replace-stage.ensures.value (c.act.ensures.reads told hands A)) in
+    subst (λ (d : Doing). TurnReads (look_reads f img d.command) number_reads d.stage before (g.S.Space.bytes_read c.act.new.s)) c.self.view_is
+    (read_besides (look_reads f img c.self.inside.command) 0 number_reads c.self.inside.stage before (g.S.Space.bytes_read c.act.new.s) (g.S.Space.bytes_read c.act.new.s) act (record { no_more = omega arith; never_falls = omega arith }) (omega arith))
+
+pub returns-in_err-count-in-Done-clause-reads : goal.returns-in_err-count-in-Done-clause-reads
+returns-in_err-count-in-Done-clause-reads g c told hands A =
+    let f = g.S.Space.form c.args.s.now in
+    let img = g.S.Space.image c.args.s.now in
+    let before = g.S.Space.bytes_read c.args.s.now in
+    let act = (subst (λ x. TurnReads (look_reads f img c.self.inside.command) 0 x before (g.S.Space.bytes_read c.act.new.s)) c.replace-stage.ensures.value (c.act.ensures.reads told hands A)) in
+    subst (λ (d : Doing). TurnReads (look_reads f img d.command) number_reads d.stage before (g.S.Space.bytes_read c.count.new.s)) c.self.view_is
+    (read_besides (look_reads f img c.self.inside.command) number_reads number_reads c.self.inside.stage before (g.S.Space.bytes_read c.act.new.s) (g.S.Space.bytes_read c.count.new.s) act c.count.ensures.bytes_read (omega arith))

@@ -1,5 +1,5 @@
 -- A turn takes the lock that it wants, or none is wanted; the reply lets go of what the command took.
-use Rattle.std.proofs.Common.{◌≡◌, None, Some, sym, ◌∙◌, subst}
+use Rattle.std.proofs.Common.{◌≡◌, None, Some, refl, sym, ◌∙◌, subst}
 use Rattle.tdb_steps.specs.LockRows.{row_at, rows_of, locks_in}
 use Rattle.tdb_steps.specs.LockTurns.{LockLed}
 use Rattle.tdb_steps.specs.Holdings.{LocksTurned}
@@ -7,6 +7,8 @@ use Rattle.tdb_steps.specs.PlainCommands.{turn_of}
 use Rattle.tdb_steps.proofs.Turning.{lock_turned, row_facts, row_idle, lock_stage, locks_idle}
 use Rattle.tdb_steps.proofs.Rowed.{lock_table, act_table, end_table, ended_rows}
 use Rattle.tdb_steps.proofs.machine.Machine.step.Goals.{in-Done, in_default-turn}
+use Rattle.tdb_steps.specs.Reads.{number_reads}
+use Rattle.tdb_steps.proofs.Reading.{nothing_read}
 use Rattle.tdb_space.proofs.Results.{on_err}
 use Rattle.tdb_steps.proofs.machine.Machine.step.Goals as goal
 
@@ -46,3 +48,7 @@ returns-clause-locks g c n kept is H =
 -- the turn failed
 pub returns-in_err-turn-clause-stopped : goal.returns-in_err-turn-clause-stopped
 returns-in_err-turn-clause-stopped g c = on_err c.from_residual.result c.in_err-turn.ensures.stopped
+
+-- a turn that takes a lock reads nothing
+pub returns-in-Some-clause-reads : goal.returns-in-Some-clause-reads
+returns-in-Some-clause-reads g c told hands A = nothing_read _ number_reads c.args.self.now.stage (g.S.Space.bytes_read c.args.s.now) (g.S.Space.bytes_read c.args.s.now) refl
