@@ -58,6 +58,7 @@ use Rattle.tdb_txn_owner.specs.Holders.{is_idle, stage_depth, with_command}
 use Rattle.tdb_txn_owner.specs.Open.{HasOpen, OpenFits}
 use Rattle.tdb_txn_owner.specs.Stages.{is_closing, stage_task, Known, IsFit, IsSide, KnowsFile, MayBeGiven}
 use Rattle.tdb_txn_owner.specs.Turned.{BeginsOn, KnowsLeft, MayTurn, StageTurned, keeps}
+use Rattle.tdb_txn_owner.specs.Waits.{IsRowOfEnds, of_start, of_prepare, of_commit}
 use Rattle.tdb_txn_owner.specs.Wanting.{given_wants, plans_open, plan_wants, stage_wants, start_wants, wanted_by}
 use Rattle.tdb_txn_owner.proofs.CommitTurns.{commit_is_own}
 use Rattle.tdb_txn_owner.proofs.Keeping.{keeps_nothing}
@@ -69,7 +70,7 @@ use Rattle.tdb_txn_owner.proofs.Resting.{ready_like}
 use Rattle.tdb_txn_owner.proofs.Sided.{begins, leaves, same_task, side_after}
 use Rattle.tdb_txn_owner.proofs.Turning.{group_still}
 use Rattle.tdb_txn_owner.proofs.StartTurns.{start_is_own}
-use Rattle.tdb_txn_owner.proofs.Waiting.{commit_wants}
+use Rattle.tdb_txn_owner.proofs.Waiting.{alone_free, commit_wants}
 use Rattle.tdb_txn_owner.proofs.Wanted.{commit_why, outer_plans, prepare_why, wanted_law}
 
 -- a stage is idle where it has no task
@@ -244,9 +245,9 @@ module _ (f : Form) (o : Options) (table : ℕ → ℕ → ℕ) (owner : ℕ) (p
   abbrev Starved : Task → Type 0
   Starved t = StageTurned f o table owner [] stage None h h k past s t (Ends Memory)
 
-  row_starved : (stays : Bool) (row : List Lock) (kept : ℕ → ℕ) (n : ℕ) → RowTurned stays row kept owner n ps [] (Ends Memory)
-  row_starved true row kept n = record { holds = λ b. refl; others = λ p b differs. sym (S.alone p b differs); rightly = tt }
-  row_starved false row kept n = record { holds = λ b. refl; others = λ p b differs. sym (S.alone p b differs); rightly = tt }
+  row_starved : (stays : Bool) (row : List Lock) (kept : ℕ → ℕ) (n : ℕ) → IsRowOfEnds row → RowTurned stays row kept owner n ps [] (Ends Memory)
+  row_starved true row kept n R = record { holds = λ b. refl; others = λ p b differs. sym (S.alone p b differs); rightly = alone_free row owner n ps R S.alone }
+  row_starved false row kept n R = record { holds = λ b. refl; others = λ p b differs. sym (S.alone p b differs); rightly = alone_free row owner n ps R S.alone }
 
   abbrev z : Side
   z = side_after s owner [] (ended s.own) None
@@ -269,7 +270,7 @@ module _ (f : Form) (o : Options) (table : ℕ → ℕ → ℕ) (owner : ℕ) (p
   commit_starved txn c O free change numbered going early has M =
       let t = task_of (OnGroup Commit) (commit_steps c) in
       commit_is_own f table m m q q owner past past s z s.own txn c CommitTurn.Memory ps [] O free (λ e. e) change numbered (going, omega (arith, early))
-      (row_starved false (commit_row c txn.numbered) start_held (commit_steps c)) (λ b. refl)
+      (row_starved false (commit_row c txn.numbered) start_held (commit_steps c) (of_commit c txn.numbered)) (λ b. refl)
       (record { map = refl; number = refl; done = λ ends commits. absurd (cc ends) })
       (begins f o table owner ps stage k past s t S has M) (leaves past s t (Ends Memory) owner [] (ended s.own)) (λ step. absurd (cc step))
 
@@ -278,7 +279,7 @@ module _ (f : Form) (o : Options) (table : ℕ → ℕ → ℕ) (owner : ℕ) (p
   prepare_starved txn p O plan numbered going early has M =
       let t = task_of (OnGroup Prepare) (prepare_steps p) in
       prepare_is_own f table m q owner past past s z s.own txn p PrepareTurn.Memory ps [] O (λ e. e) plan numbered (going, omega (arith, early))
-      (row_starved true (prepare_row p) start_held (prepare_steps p)) (λ b. refl)
+      (row_starved true (prepare_row p) start_held (prepare_steps p) (of_prepare p)) (λ b. refl)
       (begins f o table owner ps stage k past s t S has M) (leaves past s t (Ends Memory) owner [] (ended s.own)) (λ shown. absurd (cc shown))
 
 -- a transaction that plans at the first turn of its Commit or Prepare isn't refused, and is the outer one
@@ -354,7 +355,7 @@ module _ (f : Form) (o : Options) (table : ℕ → ℕ → ℕ) (owner : ℕ) (p
         turned =
             start_is_own f f table m q 0 owner past past s z s.own st StartTurn.Memory ps [] out S.own.granted
             (keeps_nothing f s.own out (ap (λ (x : Own). x.counts) (sym bare)) (ap (λ (x : Own). x.all) (sym bare))) (λ e. e) (omega (arith, early))
-            (row_starved f o table owner ps (At.Starting st) h k past s S true start_locks (λ b. 0) (start_steps st)) (λ b. refl)
+            (row_starved f o table owner ps (At.Starting st) h k past s S true start_locks (λ b. 0) (start_steps st) of_start) (λ b. refl)
             (begins f o table owner ps (At.Starting st) k past s t S refl M) (leaves past s t (Ends Memory) owner [] s.own) (λ step. absurd (cc step));
       }
 

@@ -90,7 +90,7 @@ module _ (old : List Piece) (owner start end : ℕ) (kind : Kind) where
       least : (p b : ℕ) → p ≢ owner → 2 < want b + table_of old p b → (byte < b) ⊎ ((byte ≡ b) × (other ≤ p))
       least p b differs more = at p b differs more (held old p b) refl
 
-  pub taken_made : (new : List Piece) → MayRaise want owner old → Table.IsFree old owner start end kind → ChangesRange old new owner start end (Some kind) → AttemptMade want owner old new Attempt.Taken
+  pub taken_made : (new : List Piece) → MayRaise want owner old → Table.IsFree old owner start end kind → ChangesRange old new owner start end (Some kind) → AttemptMade want want owner old new Attempt.Taken
   taken_made new low none C = (
     free none,
     λ b. elim (place b) [
@@ -107,8 +107,8 @@ module _ (old : List Piece) (owner start end : ℕ) (kind : Kind) where
       strength_some Read = omega arith
       strength_some Write = omega arith
 
-  pub blocked_made : (new : List Piece) (other byte : ℕ) (there : Kind) → Table.IsFirstConflict old owner start end kind other byte there → new ≡ old → AttemptMade want owner old new (Attempt.Blocked other byte)
+  pub blocked_made : (new : List Piece) (other byte : ℕ) (there : Kind) → Table.IsFirstConflict old owner start end kind other byte there → new ≡ old → AttemptMade want want owner old new (Attempt.Blocked other byte)
   blocked_made new other byte there F same = (first other byte there F, λ b. ap (λ ps. table_of ps owner b) same)
 
-  pub starved_made : (new : List Piece) → ((b : ℕ) → held new owner b ≡ None) → AttemptMade want owner old new Attempt.Starved
-  starved_made new gone b = ap strength (gone b)
+  pub starved_made : (new : List Piece) → Table.IsFree old owner start end kind → ((b : ℕ) → held new owner b ≡ None) → AttemptMade want want owner old new Attempt.Starved
+  starved_made new none gone = (free none, λ b. ap strength (gone b))

@@ -8,7 +8,7 @@ use Rattle.tdb_law.specs.Rows.{lock, lock_all, commit_locks}
 use Rattle.tdb_law.specs.Held.{covers, locked_next}
 use Rattle.tdb_law.proofs.Locks.{within_covers}
 use Rattle.tdb_steps.specs.Holdings.{strength, table_of}
-use Rattle.tdb_txn_turns.specs.Holding.{want_of, HoldsRow, MayRaise, AttemptMade, NumberMade, OthersHold}
+use Rattle.tdb_txn_turns.specs.Holding.{first_next, want_of, HoldsRow, MayRaise, AttemptMade, NumberMade, OthersHold}
 use Rattle.tdb_txn_turns.specs.Prepares.{start_held}
 use Rattle.tdb_txn_turns.specs.declared.taking.Attempt.{Attempt}
 use Rattle.tdb_txn_turns.specs.declared.taking.Attempt.TheVariants.{Taken, Blocked, Starved}
@@ -37,6 +37,10 @@ pub third_wants : (numbered : Bool) (b : ℕ) → locked_next (commit_locks numb
 third_wants true b = refl
 third_wants false b = refl
 
+pub third_first : (numbered : Bool) (b : ℕ) → first_next (commit_locks numbered) 2 b ≡ 0
+third_first true b = refl
+third_first false b = refl
+
 pub fourth_wants : (numbered : Bool) (b : ℕ) → locked_next (commit_locks numbered) 3 b ≡ 0
 fourth_wants true b = refl
 fourth_wants false b = refl
@@ -58,8 +62,8 @@ opening_bare b some = elim (cases_Bool (covers (lock 0 0 1 2) b)) [
 ]
 
 -- where both are free, the number's first conflict is the first
-module _ (owner : ℕ) (old mid new : List Piece) (O : OthersHold owner old mid) (M : AttemptMade (want_of (lock 0 0 1 2)) owner old mid Taken) (bare : table_of old owner 0 ≡ 0) where
-  pub both_made : (attempt : Attempt) → NumberMade owner mid new attempt → AttemptMade (locked_next (commit_locks true) 1) owner old new attempt
+module _ (owner : ℕ) (old mid new : List Piece) (O : OthersHold owner old mid) (M : AttemptMade (want_of (lock 0 0 1 2)) (want_of (lock 0 0 1 2)) owner old mid Taken) (bare : table_of old owner 0 ≡ 0) where
+  pub both_made : (attempt : Attempt) → NumberMade owner mid new attempt → AttemptMade (locked_next (commit_locks true) 1) (first_next (commit_locks true) 1) owner old new attempt
   both_made Taken N = (
     record { free = λ p b differs. let one = M.0.free p b differs in let two = N.0.free p b differs in let same = O p b differs in omega (arith, both_wanted b, one, two, same) },
     λ b. let now = N.1 b in let was = M.1 b in omega (arith, both_wanted b, now, was),
@@ -75,7 +79,7 @@ module _ (owner : ℕ) (old mid new : List Piece) (O : OthersHold owner old mid)
       | inr later ↦ (let now = N.1 b in let e : (b == 0) ≡ false = ne_eqb b 0 later in let was = M.1 b in let none = opening_bare b later in let here : table_of new owner b ≡ table_of mid owner b = now ∙ rw e refl in omega (arith, here, was, none))
     ],
   )
-  both_made Starved N = N
+  both_made Starved N = (M.0, N.1)
 
 -- what is held once the opening lock is let go
 pub opening_gone : (owner : ℕ) (old new : List Piece) → ChangesRange old new owner 0 1 None → (b : ℕ) → table_of new owner b ≡ (if b == 0 then 0 else table_of old owner b)
@@ -95,7 +99,7 @@ opening_early : (b : ℕ) → 0 < want_of (lock 0 0 1 2) b → b ≡ 0
 opening_early b some = elim (cases_eq b 0) [ inl first ↦ first | inr later ↦ absurd (let none = opening_bare b later in omega (arith, some, none)) ]
 
 module _ (owner : ℕ) (old new : List Piece) where
-  blocked_both : (o byte : ℕ) → AttemptMade (want_of (lock 0 0 1 2)) owner old new (Blocked o byte) → AttemptMade (locked_next (commit_locks true) 1) owner old new (Blocked o byte)
+  blocked_both : (o byte : ℕ) → AttemptMade (want_of (lock 0 0 1 2)) (want_of (lock 0 0 1 2)) owner old new (Blocked o byte) → AttemptMade (locked_next (commit_locks true) 1) (first_next (commit_locks true) 1) owner old new (Blocked o byte)
   blocked_both o byte M = (
     record {
       other = M.0.other;
@@ -111,14 +115,14 @@ module _ (owner : ℕ) (old new : List Piece) where
     M.1,
   )
 
-  alike : (attempt : Attempt) → AttemptMade (want_of (lock 0 0 1 2)) owner old new attempt → AttemptMade (locked_next (commit_locks false) 1) owner old new attempt
+  alike : (attempt : Attempt) → AttemptMade (want_of (lock 0 0 1 2)) (want_of (lock 0 0 1 2)) owner old new attempt → AttemptMade (locked_next (commit_locks false) 1) (first_next (commit_locks false) 1) owner old new attempt
   alike Taken M = (record { free = λ p b differs. let one = M.0.free p b differs in omega (arith, second_wants b, one) }, λ b. let now = M.1 b in omega (arith, second_wants b, now))
   alike (Blocked o byte) M = (record { other = M.0.other; conflict = let more = M.0.conflict in omega (arith, second_wants byte, more); least = λ p b differs more. M.0.least p b differs (omega (arith, second_wants b, more)) }, M.1)
   alike Starved M = M
 
   -- the opening lock alone, where the number doesn't count or the attempt failed
-  pub one_made : (numbered : Bool) (attempt : Attempt) → ((numbered ≡ true) × (attempt ≡ Taken) → ⊥) → AttemptMade (want_of (lock 0 0 1 2)) owner old new attempt
-      → AttemptMade (locked_next (commit_locks numbered) 1) owner old new attempt
+  pub one_made : (numbered : Bool) (attempt : Attempt) → ((numbered ≡ true) × (attempt ≡ Taken) → ⊥) → AttemptMade (want_of (lock 0 0 1 2)) (want_of (lock 0 0 1 2)) owner old new attempt
+      → AttemptMade (locked_next (commit_locks numbered) 1) (first_next (commit_locks numbered) 1) owner old new attempt
   one_made false attempt never M = alike attempt M
   one_made true Taken never M = absurd (never (refl, refl))
   one_made true (Blocked o byte) never M = blocked_both o byte M

@@ -8,7 +8,7 @@ use Rattle.tdb_law.specs.Held.{locked_next}
 use Rattle.tdb_law.specs.Effects.{IsFirstConflict, IsFree}
 use Rattle.tdb_steps.specs.Holdings.{table_of}
 use Rattle.tdb_steps.proofs.Holdings.{next_turn, idle_free}
-use Rattle.tdb_txn_turns.specs.Holding.{attempt_turn, held_after, AttemptMade, HoldsRow, OthersHold, RowTurned}
+use Rattle.tdb_txn_turns.specs.Holding.{attempt_turn, first_next, held_after, AttemptMade, HoldsRow, OthersHold, RowTurned}
 use Rattle.tdb_txn_turns.specs.declared.taking.Attempt.{Attempt}
 use Rattle.tdb_txn_turns.specs.declared.taking.Attempt.TheVariants.{Taken, Blocked, Starved}
 
@@ -23,12 +23,12 @@ first_alike table who want like o byte same F = record {
   least = λ p b differs more. F.least p b differs (let e = same b in omega (arith, e, more));
 }
 
-module _ (stays : Bool) (row : List Lock) (kept : ℕ → ℕ) (owner n : ℕ) (old new : List Piece) (want : ℕ → ℕ) (wants : (b : ℕ) → locked_next row n b ≡ want b) (H : HoldsRow row kept owner n old) (O : OthersHold owner old new) where
+module _ (stays : Bool) (row : List Lock) (kept : ℕ → ℕ) (owner n : ℕ) (old new : List Piece) (want first : ℕ → ℕ) (wants : (b : ℕ) → locked_next row n b ≡ want b) (firsts : (b : ℕ) → first_next row n b ≡ first b) (H : HoldsRow row kept owner n old) (O : OthersHold owner old new) where
   at_end : (s : Bool) (b : ℕ) → table_of new owner b ≡ 0 → table_of new owner b ≡ held_after s row kept n (attempt_turn Starved) b
   at_end true b none = none
   at_end false b none = none
 
-  pub row_turned : (attempt : Attempt) → AttemptMade want owner old new attempt → RowTurned stays row kept owner n old new (attempt_turn attempt)
+  pub row_turned : (attempt : Attempt) → AttemptMade want first owner old new attempt → RowTurned stays row kept owner n old new (attempt_turn attempt)
   row_turned Taken made = record {
     holds = λ b. let now = made.1 b in let was = H b in let more = next_turn row n b in let e = wants b in omega (arith, now, was, more, e);
     others = O;
@@ -40,9 +40,9 @@ module _ (stays : Bool) (row : List Lock) (kept : ℕ → ℕ) (owner n : ℕ) (
     rightly = first_alike (table_of old) owner want (locked_next row n) o byte wants made.0;
   }
   row_turned Starved made = record {
-    holds = λ b. at_end stays b (made b);
+    holds = λ b. at_end stays b (made.1 b);
     others = O;
-    rightly = tt;
+    rightly = free_alike (table_of old) owner first (first_next row n) firsts made.0;
   }
 
 -- an end without a want, after which the opener holds what it held

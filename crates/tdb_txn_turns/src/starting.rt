@@ -94,8 +94,8 @@ impl Starting {
     ///
     /// The first turn takes the lock byte of transactions for writing, the second all records for reading, and the
     /// third syncs the file, after which the transaction is there. `Blocked` by the first conflict: then nothing
-    /// changes. `Memory` where that is wanting in the lock table: then the opener holds nothing. `Io` where the disk
-    /// failed: then it keeps its locks.
+    /// changes. `Memory` where that is wanting in the lock table, and no other opener's lock is in the way: then the
+    /// opener holds nothing. `Io` where the disk failed: then it keeps its locks.
     ///
     /// Cost: a pass over the lock table, or a sync.
     pub fn step<D: Disk>(

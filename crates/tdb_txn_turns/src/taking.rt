@@ -5,7 +5,7 @@ ghost use Rattle.tdb_law.specs.Held.{locked_next};
 ghost use Rattle.tdb_law.specs.Rows.{lock, commit_locks};
 ghost use Rattle.tdb_steps.specs.Holdings.{table_of};
 ghost use Rattle.tdb_steps.specs.LockRows.{strength_of};
-ghost use Rattle.tdb_txn_turns.specs.Holding.{want_of, MayRaise, OthersHold, AttemptMade, NumberMade};
+ghost use Rattle.tdb_txn_turns.specs.Holding.{first_next, want_of, MayRaise, OthersHold, AttemptMade, NumberMade};
 
 use tdb_locks::{Kind, Len, LockRefusal, Locks};
 
@@ -29,7 +29,7 @@ pub(crate) enum Attempt {
     /// Another opener's lock on a byte is in the way: the opener holds what it held.
     Blocked { owner: u32, byte: u64 },
 
-    /// There was no memory, and the opener has let go of everything.
+    /// There was no memory, and the opener has let go of everything. Nothing was in the way of what it tried.
     Starved,
 }
 
@@ -38,7 +38,7 @@ pub(crate) fn take(locks: &mut Locks, owner: u32, start: u64, len: Len, kind: Ki
     requires range { IsRange start len }
     ensures others { OthersHold owner locks.old locks.new }
     ensures made { MayRaise (want_of (lock 0 start (stop start len) (strength_of kind))) owner locks.old
-        → AttemptMade (want_of (lock 0 start (stop start len) (strength_of kind))) owner locks.old locks.new result }
+        → AttemptMade (want_of (lock 0 start (stop start len) (strength_of kind))) (want_of (lock 0 start (stop start len) (strength_of kind))) owner locks.old locks.new result }
 {
     match locks.try_lock(owner, start, len, kind) {
         Ok(()) => Attempt::Taken,
@@ -77,7 +77,7 @@ fn take_number(locks: &mut Locks, owner: u32) -> Attempt
 /// the opener holds nothing of the first.
 pub(crate) fn take_opening(locks: &mut Locks, owner: u32, numbered: bool) -> Attempt
     ensures others { OthersHold owner locks.old locks.new }
-    ensures made { table_of locks.old owner 0 ≡ 0 → AttemptMade (locked_next (commit_locks numbered) 1) owner locks.old locks.new result }
+    ensures made { table_of locks.old owner 0 ≡ 0 → AttemptMade (locked_next (commit_locks numbered) 1) (first_next (commit_locks numbered) 1) owner locks.old locks.new result }
 {
     let opening = take(locks, owner, OPENING_BYTE, Len::Bytes(1), Kind::Write);
     if !numbered {

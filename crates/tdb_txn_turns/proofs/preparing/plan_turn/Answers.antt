@@ -1,13 +1,16 @@
 -- What the plan answers.
-use Rattle.std.proofs.Common.{true, Ok, Err, sym, ◌∙◌, subst}
+use Rattle.std.proofs.Common.{true, Ok, Err, sym, ◌∙◌, ap, subst}
 use Rattle.tdb_disk.specs.History.{seen}
 use Rattle.tdb_law.specs.Rows.{commit_locks}
 use Rattle.tdb_txn.specs.Answered.{AnsweredRightly, LeftFor}
 use Rattle.tdb_txn.specs.declared.planning.ToCommit.TheVariants.{Nothing, Ready}
 use Rattle.tdb_txn.specs.declared.refusal.TxnRefusal.TheVariants as TxnRefusal
 use Rattle.tdb_txn.specs.CommitStates.{planned_plan}
+use Rattle.tdb_steps.specs.Holdings.{strength}
+use Rattle.tdb_steps.proofs.Holdings.{idle_free}
+use Rattle.tdb_txn_turns.specs.Holding.{first_next}
 use Rattle.tdb_txn_turns.specs.Prepares.{start_held}
-use Rattle.tdb_txn_turns.proofs.CommitLocks.{third_wants}
+use Rattle.tdb_txn_turns.proofs.CommitLocks.{third_first, third_wants}
 use Rattle.tdb_txn_turns.proofs.Planned.{plan_answer, plan_finds_nothing, plan_is_ready}
 use Rattle.tdb_txn_turns.proofs.Room.{planned_full, planned_memory, planned_nothing, planned_ready}
 use Rattle.tdb_txn_turns.proofs.Rows.{row_steps}
@@ -25,6 +28,14 @@ returns-in-Ok-Nothing-clause-made g c told r b R =
 
 pub returns-in-Ok-Ready-clause-locks : goal.returns-in-Ok-Ready-clause-locks
 returns-in-Ok-Ready-clause-locks g c H = row_steps true (commit_locks c.args.numbered) start_held c.args.owner 2 c.args.locks.now H (third_wants c.args.numbered)
+
+-- where memory is wanting nothing is wanted of the locks
+pub returns-in-Err-Memory-clause-locks : goal.returns-in-Err-Memory-clause-locks
+returns-in-Err-Memory-clause-locks g c H = record {
+  holds = λ b. ap strength (c.drop_owner-in-Err-Memory.ensures.gone b);
+  others = λ o b differs. ap strength (c.drop_owner-in-Err-Memory.ensures.others o b differs);
+  rightly = idle_free c.args.locks.now c.args.owner (first_next (commit_locks c.args.numbered) 2) (third_first c.args.numbered);
+}
 
 pub returns-in-Ok-Ready-clause-made : goal.returns-in-Ok-Ready-clause-made
 returns-in-Ok-Ready-clause-made g c told r b R =
