@@ -5,7 +5,7 @@ use Rattle.tdb_space.specs.Extents.{Extent}
 use Rattle.tdb_space.specs.Planned.{content_length}
 
 -- with a run at the end
-content_end : (es : List Extent) (e : Extent) → content_length (es ++ e ∷ []) ≡ content_length es + (8 + e.1)
+pub content_end : (es : List Extent) (e : Extent) → content_length (es ++ e ∷ []) ≡ content_length es + (8 + e.1)
 content_end [] e = omega arith
 content_end (f ∷ fs) e = omega (arith, content_end fs e)
 

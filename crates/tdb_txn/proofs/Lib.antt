@@ -7,6 +7,7 @@ pub mod FilledIn
 pub mod StatesKept
 pub mod GateShut
 pub mod Scans
+pub mod Gathered
 pub mod Compared
 pub mod Walked
 pub mod KeptArea

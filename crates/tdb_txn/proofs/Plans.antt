@@ -9,12 +9,13 @@ use Rattle.tdb_space.specs.Form.{form_of}
 use Rattle.tdb_space.specs.Planned.{content_length}
 use Rattle.tdb_space.specs.Runs.{Changed, ChangedRuns}
 use Rattle.tdb_space.specs.Undoing.{Reopens}
-use Rattle.tdb_space.proofs.Runs.Stretches.{no_run_no_change}
-use Rattle.tdb_txn.specs.Answered.{ChangesNothing, AreaReplaced, first, other, PlannedFor, keeps, places, PlaceRefused, ReplaceRefused, AnsweredRightly}
+use Rattle.tdb_space.proofs.Runs.Stretches.{no_run_no_change, runs_one}
+use Rattle.tdb_txn.specs.Answered.{ChangesNothing, AreaReplaced, HasSomeRuns, IsNoRoomFor, RunsRefused, WantsArea, first, other, PlannedFor, keeps, places, PlaceRefused, ReplaceRefused, AnsweredRightly}
 use Rattle.tdb_txn.specs.AreaExtent.{IsAreaExtent, none, there}
 use Rattle.tdb_txn.specs.AreaRoom.{new_area_length}
 use Rattle.tdb_txn.specs.Committing.{HasAreaIn, MayCommit, MayKeep, MayPlace}
 use Rattle.tdb_txn.specs.EndBelow.{EndBelow}
+use Rattle.tdb_txn.specs.Found.{HasRuns}
 use Rattle.tdb_txn.specs.Planned.{IsPlannedOn}
 use Rattle.tdb_txn.specs.Txn.{txn_image, txn_size, txn_start}
 use Rattle.tdb_txn.specs.declared.planned.Plan.{Plan}
@@ -22,7 +23,7 @@ use Rattle.tdb_txn.specs.declared.refusal.TxnRefusal.{TxnRefusal}
 use Rattle.tdb_txn.specs.declared.refusal.TxnRefusal.TheVariants.{Full, Io, Memory}
 use Rattle.tdb_txn.specs.declared.txn.Txn.{Txn}
 use Rattle.tdb_txn.proofs.Committed.{first_place}
-use Rattle.tdb_txn.proofs.NewAreas.{content_short}
+use Rattle.tdb_txn.proofs.NewAreas.{content_short, runs_end}
 
 -- an image has one extent of an undo area
 extent_one : (o : Order) (r : List ℕ) (d e : Extent) → IsAreaExtent o r d → IsAreaExtent o r e → d ≡ e
@@ -166,4 +167,72 @@ module _ (txn : Txn) (limit : ℕ) (r : List ℕ) (e : Extent) (runs : List Exte
       },
     )
     other_refused h Io short some p = tt
-    other_refused h Memory short some p = tt
+    other_refused h Memory short some p = record { changes = some; room = λ len need zero N. area_there.some zero }
+
+-- no undo area, so no extent
+pub zero_extent : (o : Order) (r : List ℕ) (e : Extent) → IsAreaExtent o r e → word o r 44 ≡ 0 → e.1 ≡ 0
+zero_extent o r e (none zero is) also = ap (λ (x : Extent). x.1) is
+zero_extent o r e (there some is) zero = absurd (some zero)
+
+-- Where memory was wanting for the runs of what changes.
+module _ (txn : Txn) (limit : ℕ) (r : List ℕ) (e : Extent) where
+  no_content : (runs : List Extent) → 8 ≤ content_length runs → runs ≡ [] → ⊥
+  no_content runs some empty = let bare : content_length runs ≡ 4 = ap content_length empty in omega (arith, some, bare)
+
+  -- why no runs are given
+  pub starved_refused : (content : ℕ) (refusal : TxnRefusal) → txn_start txn < 2 ^ 32 → HasRuns r (txn_image txn r) (txn_start txn) e content → IsNoRoomFor content (txn_size txn) limit e refusal
+      → RunsRefused txn limit r e refusal
+  starved_refused content refusal low H = of refusal
+    where
+      short : content_length H.runs < 2 ^ 40
+      short = content_short (txn_start txn) H.runs low H.changed.in_order (runs_end r (txn_image txn r) (txn_start txn) e H.runs H.changed)
+
+      same : content ≡ content_length H.runs
+      same = omega (arith, short, H.long)
+
+      some : HasSomeRuns txn r e H.runs
+      some = record { changed = H.changed; some = no_content H.runs H.some }
+
+      small : content < 2 ^ 40
+      small = omega (arith, short, same)
+
+      of : (refusal : TxnRefusal) → IsNoRoomFor content (txn_size txn) limit e refusal → RunsRefused txn limit r e refusal
+      of (Full len need) p = (p.0, (H.runs, some, p.1, p.2 small ∙ ap new_area_length same, p.3))
+      of Io p = absurd p
+      of Memory p = (H.runs, some, λ bare. subst (λ n. txn_size txn + new_area_length n ≤ limit) same (p small bare))
+
+  module _ (is : IsAreaExtent (form_of r).order r e) where
+    changes_some : (runs : List Extent) → HasSomeRuns txn r e runs → ChangesNothing txn r → ⊥
+    changes_some runs H N = H.some ((no_run_no_change r (txn_image txn r) (txn_start txn) e runs H.changed).1 (λ i change. N.bytes e is i change))
+
+    from_zero : (runs : List Extent) → HasSomeRuns txn r e runs → e.1 ≡ 0 → ChangedRuns r (txn_image txn r) (txn_start txn) (0, 0) runs
+    from_zero runs H short = subst (λ (x : Extent). ChangedRuns r (txn_image txn r) (txn_start txn) x runs) (no_extent (form_of r).order r e is short) H.changed
+
+    -- the first undo area has the room that its runs want
+    fits_first : (runs : List Extent) → HasSomeRuns txn r e runs → (e.1 ≡ 0 → txn_size txn + new_area_length (content_length runs) ≤ limit) → (len need : ℕ) → word (form_of r).order r 44 ≡ 0
+        → (x b : List ℕ) (es : List Extent) → WantsArea txn r x b es → len ≡ txn_size txn → need ≡ new_area_length (content_length es) → limit < len + need → ⊥
+    fits_first runs H room len need zero x b es (first absent same image changed) length long past =
+        let short = zero_extent (form_of r).order r e is zero in
+        let one : es ≡ runs = runs_one r (txn_image txn r) (txn_start txn) (0, 0) es runs changed (from_zero runs H short) in
+        let more : need ≡ new_area_length (content_length runs) = long ∙ ap (λ fs. new_area_length (content_length fs)) one in
+        omega (arith, room short, length, more, past)
+    fits_first runs H room len need zero x b es (other d too_much has changed short replaced) length long past = has.some zero
+
+    pub runs_refused : (h : History) (refusal : TxnRefusal) → RunsRefused txn limit r e refusal → AnsweredRightly txn limit r h (Err refusal)
+    runs_refused h (Full len need) p = (
+      changes_some p.1.0 p.1.1,
+      record {
+        x = r;
+        b = txn_image txn r;
+        runs = p.1.0;
+        wants = first (no_area (form_of r).order r e is p.0) refl refl (from_zero p.1.0 p.1.1 p.0);
+        len_is = p.1.2;
+        need_is = p.1.3;
+        past = p.1.4;
+      },
+    )
+    runs_refused h Io p = tt
+    runs_refused h Memory p = record {
+      changes = changes_some p.0 p.1;
+      room = λ len need zero N. fits_first p.0 p.1 p.2 len need zero N.x N.b N.runs N.wants N.len_is N.need_is N.past;
+    }

@@ -1,5 +1,5 @@
 -- What the plan of a commit answers.
-use Rattle.std.specs.Prelude.{◌≡◌, ℕ, ◌+◌, ◌<◌, ◌≤◌, ◌^◌, List, Result, Ok, Err}
+use Rattle.std.specs.Prelude.{◌≡◌, ℕ, ◌+◌, ◌<◌, ◌≤◌, ◌^◌, List, [], Result, Ok, Err}
 use Rattle.tdb_disk.specs.History.{History}
 use Rattle.tdb_words.specs.Word.{word}
 use Rattle.tdb_words.specs.Header.{area_head}
@@ -15,6 +15,8 @@ use Rattle.tdb_txn.specs.Found.{Blanked}
 use Rattle.tdb_txn.specs.GivenUp.{AreaGivenUp}
 use Rattle.tdb_txn.specs.Planned.{IsPlannedOn}
 use Rattle.tdb_txn.specs.Txn.{txn_image, txn_size, txn_start}
+use Rattle.tdb_txn.specs.declared.comparing.RunsRefusal.{RunsRefusal}
+use Rattle.tdb_txn.specs.declared.comparing.RunsRefusal.TheVariants as Runs
 use Rattle.tdb_txn.specs.declared.planned.Plan.{Plan}
 use Rattle.tdb_txn.specs.declared.planning.ToCommit.{ToCommit}
 use Rattle.tdb_txn.specs.declared.planning.ToCommit.TheVariants.{Nothing, Ready}
@@ -70,14 +72,45 @@ PlaceRefused size limit runs (Full len need) = (len ≡ size) × (content_length
 PlaceRefused size limit runs Io = Unit {0}
 PlaceRefused size limit runs Memory = ⊥
 
+-- what a refusal of runs is of a plan
+abbrev pub of_runs : RunsRefusal → TxnRefusal
+of_runs Runs.Io = Io
+of_runs (Runs.Memory content) = Memory
+
+-- Where memory is wanting for runs whose content is so long, and the extent of the undo area is empty, a plan is refused
+-- for want of room just where the new area would bring the file past the limit; and else for want of memory.
+abbrev pub IsNoRoomFor : ℕ → ℕ → ℕ → Extent → TxnRefusal → Type 0
+IsNoRoomFor content size limit e (Full len need) = (e.1 ≡ 0) × (len ≡ size) × (content < 2 ^ 40 → need ≡ new_area_length content) × (limit < len + need)
+IsNoRoomFor content size limit e Io = ⊥
+IsNoRoomFor content size limit e Memory = content < 2 ^ 40 → e.1 ≡ 0 → size + new_area_length content ≤ limit
+
+-- the transaction changes bytes of image r of the file, outside an extent, in these runs
+pub record HasSomeRuns (txn : Txn) (r : List ℕ) (e : Extent) (runs : List Extent) : Type 0 where
+  pub changed : ChangedRuns r (txn_image txn r) (txn_start txn) e runs
+  pub some : runs ≡ [] → ⊥
+
+-- a refusal is right where the runs of what the transaction changes are wanted
+abbrev pub RunsRefused : Txn → ℕ → List ℕ → Extent → TxnRefusal → Type 0
+RunsRefused txn limit r e (Full len need) =
+    (e.1 ≡ 0) × ((runs : List Extent) × HasSomeRuns txn r e runs × (len ≡ txn_size txn) × (need ≡ new_area_length (content_length runs)) × (limit < len + need))
+RunsRefused txn limit r e Io = Unit {0}
+RunsRefused txn limit r e Memory = (runs : List Extent) × HasSomeRuns txn r e runs × (e.1 ≡ 0 → txn_size txn + new_area_length (content_length runs) ≤ limit)
+
+-- Memory is wanting only where the transaction changes something; and where the file has no undo area yet, the new one
+-- has room.
+pub record StarvesRightly (txn : Txn) (limit : ℕ) (r : List ℕ) : Type 0 where
+  pub changes : ChangesNothing txn r → ⊥
+  pub room : (len need : ℕ) → word (form_of r).order r area_head ≡ 0 → NoRoom (WantsArea txn r) (txn_size txn) limit len need → ⊥
+
 -- The answer is right: there is nothing to commit just where nothing changes; a plan that is ready was made for that
--- file; and a refusal for want of room comes just where a new undo area is wanted and has no room.
+-- file; a refusal for want of room comes just where a new undo area is wanted and has no room; and memory is wanting
+-- where something changes, and not in place of room for the first area.
 abbrev pub AnsweredRightly : Txn → ℕ → List ℕ → History → Result ToCommit TxnRefusal → Type 0
 AnsweredRightly txn limit r h (Ok Nothing) = ChangesNothing txn r
 AnsweredRightly txn limit r h (Ok (Ready planned)) = (ChangesNothing txn r → ⊥) × PlannedFor txn limit r h (planned_plan planned)
 AnsweredRightly txn limit r h (Err (Full len need)) = (ChangesNothing txn r → ⊥) × NoRoom (WantsArea txn r) (txn_size txn) limit len need
 AnsweredRightly txn limit r h (Err Io) = Unit {0}
-AnsweredRightly txn limit r h (Err Memory) = Unit {0}
+AnsweredRightly txn limit r h (Err Memory) = StarvesRightly txn limit r
 
 -- a file has these history and length where nothing was done for a commit, and the plan's length where its plan is
 -- ready

@@ -28,7 +28,7 @@ pub(crate) fn content_len(runs: &Runs) -> u64
 
 /// How many bytes a new undo area gets, with its header, for a content of so many bytes: a quarter more than that, in
 /// whole blocks of 4096 bytes.
-pub(crate) fn area_len(content: u64) -> u64
+fn area_len(content: u64) -> u64
     requires { content < 2 ^ 62 }
     ensures length { result ≡ new_area_length content }
     ensures room { 24 + content ≤ result }
@@ -37,11 +37,20 @@ pub(crate) fn area_len(content: u64) -> u64
     (AREA_HEADER as u64 + content + content / 4).next_multiple_of(4_096)
 }
 
+/// The same of a content of any length: one that is longer than `MOST_CONTENT` counts as that long.
+pub(crate) fn area_len_for(content: u64) -> u64
+    ensures length { content < 2 ^ 40 → result ≡ new_area_length content }
+    ensures room { 24 + min content (2 ^ 40) ≤ result }
+    ensures words { result % 4 ≡ 0 }
+{
+    area_len(content.min(MOST_CONTENT))
+}
+
 /// How many bytes a new undo area gets, with its header, for the content of these runs.
 pub(crate) fn area_len_of(runs: &Runs) -> u64
     ensures length { content_length runs.now < 2 ^ 40 → result ≡ new_area_length (content_length runs.now) }
     ensures room { 24 + min (content_length runs.now) (2 ^ 40) ≤ result }
     ensures words { result % 4 ≡ 0 }
 {
-    area_len(content_len(runs).min(MOST_CONTENT))
+    area_len_for(content_len(runs))
 }

@@ -1,19 +1,19 @@
 //! Comparing the pages of a transaction with the file.
 ghost use Rattle.std.specs.Prelude.{◌≡◌, ◌+◌, ◌*◌, ◌<◌, ◌≤◌, ◌^◌, ℕ, List, IsTrue, IfOk, IfErr, OnOk, MatchBool, length, slice_index, ◌⊎◌};
+ghost use Rattle.tdb_txn.specs.declared.comparing.RunsRefusal.TheVariants.{Io as IoIs};
 ghost use Rattle.tdb_disk.specs.Count.{HasCause, HasCauseOf, RoseUpTo};
 ghost use Rattle.tdb_disk.specs.History.{seen};
 ghost use Rattle.tdb_space.specs.Extents.{Extent, once};
 ghost use Rattle.tdb_space.specs.Runs.{ChangedRuns};
 ghost use Rattle.tdb_txn.specs.EndBelow.{EndBelow};
-ghost use Rattle.tdb_txn.specs.Found.{FoundSoFar, InPlace, Counts, StandsAt, Blanked};
+ghost use Rattle.tdb_txn.specs.Found.{FoundSoFar, HasRuns, InPlace, Counts, StandsAt, Blanked, WhereStarved};
 ghost use Rattle.tdb_txn.specs.Pages.{page_size, byte_over};
 ghost use Rattle.tdb_txn.specs.Stock.{page_list};
 
 use crate::found::Found;
 use crate::page::{PAGE_SIZE, Page};
 use crate::pages::Pages;
-use crate::refusal::TxnRefusal;
-use std::alloc::{AllocError, Global};
+use std::alloc::Global;
 use tdb_disk::{Disk, DiskFault};
 use tdb_undo::Runs;
 
@@ -31,6 +31,24 @@ pub(crate) struct Comparison {
     pub(crate) hole: (u32, u32),
 }
 
+/// Why the runs of the bytes that change aren't known.
+#[derive(Clone, Copy)]
+pub(crate) enum RunsRefusal {
+    /// The disk failed.
+    Io,
+
+    /// Memory was wanting for one. The content of an undo area has so many bytes for all of them.
+    Memory { content: u64 },
+}
+
+impl From<DiskFault> for RunsRefusal {
+    ghost from_gives = { λ _ e. e ≡ IoIs };
+
+    fn from(_fault: DiskFault) -> Self {
+        RunsRefusal::Io
+    }
+}
+
 /// Whether a byte at a place counts where it is another one.
 fn counts(skip: (u32, u32), at: u32) -> bool
     ensures { MatchBool result (Counts skip at) (Counts skip at → ⊥) }
@@ -41,28 +59,22 @@ fn counts(skip: (u32, u32), at: u32) -> bool
 }
 
 /// Compares bytes of a page, from the place on up to which all was looked at, with those that the file has there.
-fn scan_bytes(
-    found: &mut Found,
-    skip: (u32, u32),
-    page: &[u8],
-    file: &[u8],
-) -> Result<(), AllocError>
+fn scan_bytes(found: &mut Found, skip: (u32, u32), page: &[u8], file: &[u8])
     requires place { InPlace found.old }
     requires inside { length file.now ≤ length page.now }
     requires short { found.old.next + length file.now < 2 ^ 32 }
-    ensures place { OnOk result (InPlace found.new) }
-    ensures next { OnOk result (found.new.next ≡ found.old.next + length file.now) }
-    ensures found { OnOk result ((a b : List ℕ) (old : ℕ) → found.old.next + length file.now ≤ old → StandsAt file.now (length file.now) found.old.next a
-        → StandsAt page.now (length file.now) found.old.next b → FoundSoFar a b old skip found.old → FoundSoFar a b old skip found.new) }
+    ensures place { InPlace found.new }
+    ensures next { found.new.next ≡ found.old.next + length file.now }
+    ensures found { (a b : List ℕ) (old : ℕ) → found.old.next + length file.now ≤ old → StandsAt file.now (length file.now) found.old.next a
+        → StandsAt page.now (length file.now) found.old.next b → FoundSoFar a b old skip found.old → FoundSoFar a b old skip found.new }
 {
     for k in 0..file.len() {
         if page[k] != file[k] && counts(skip, found.next) {
-            found.add()?;
+            found.add();
         } else {
             found.next += 1;
         }
     }
-    Ok(())
 }
 
 /// Makes bytes zero, from one place up to another.
@@ -103,7 +115,7 @@ fn scan_page<D: Disk>(
     page: &Page,
     found: &mut Found,
     block: &mut [u8; PAGE_SIZE],
-) -> Result<(), TxnRefusal>
+) -> Result<(), DiskFault>
     requires place { InPlace found.old }
     requires inside { comparison.now.old_length ≤ D.size d.old }
     requires behind { found.old.next ≤ page.now.number * page_size }
@@ -118,8 +130,7 @@ fn scan_page<D: Disk>(
         → FoundSoFar c b comparison.now.old_length comparison.now.skip found.old → FoundSoFar c b comparison.now.old_length comparison.now.skip found.new) }
     ensures size { D.size d.new ≡ D.size d.old }
     ensures history { D.history d.new ≡ D.history d.old }
-    ensures cause { HasCauseOf TxnRefusal.Io (D.faults d.old) (D.faults d.new) result }
-    ensures refusal { IfErr result (λ refusal. (refusal ≡ TxnRefusal.Io) ⊎ (refusal ≡ TxnRefusal.Memory)) }
+    ensures cause { HasCause (D.faults d.old) (D.faults d.new) result }
     ensures syncs { D.syncs d.new ≡ D.syncs d.old }
     ensures bytes_read { RoseUpTo page_size (D.bytes_read d.old) (D.bytes_read d.new) }
 {
@@ -129,28 +140,30 @@ fn scan_page<D: Disk>(
     let file = &mut block[..count];
     found.next = at;
     read_old(d, at, file, comparison.hole)?;
-    scan_bytes(found, comparison.skip, &page.bytes, file)?;
+    scan_bytes(found, comparison.skip, &page.bytes, file);
     Ok(())
 }
 
 /// The runs of the bytes that change from the file to what the pages make of it: the greatest ones, with at most 8
 /// bytes that stay between two that change in one run. It reads the file where there are pages, and only there: at most
-/// 4096 bytes for each. Fails where the disk fails or memory is wanting.
+/// 4096 bytes for each. Where memory is wanting for them it tells how long their content is.
 pub(crate) fn find_runs<D: Disk>(
     alloc: Global,
     d: &mut D,
     pages: &Pages,
     comparison: &Comparison,
-) -> Result<Runs, TxnRefusal>
+) -> Result<Runs, RunsRefusal>
     requires { comparison.now.old_length ≤ D.size d.old }
     ensures runs { IfOk result (λ runs. IsTrue D.tells → (c b : List ℕ) → Blanked comparison.now.hole (seen (D.history d.old)) c
         → ((i : ℕ) → i < comparison.now.old_length → slice_index b i ≡ byte_over (page_list pages.now) c i)
         → ChangedRuns c b comparison.now.old_length comparison.now.skip runs) }
+    ensures starved { IfErr result (WhereStarved (λ content. IsTrue D.tells → (c b : List ℕ) → Blanked comparison.now.hole (seen (D.history d.old)) c
+        → ((i : ℕ) → i < comparison.now.old_length → slice_index b i ≡ byte_over (page_list pages.now) c i)
+        → HasRuns c b comparison.now.old_length comparison.now.skip content)) }
     ensures ends { IfOk result (λ runs. EndBelow comparison.now.old_length runs) }
     ensures size { D.size d.new ≡ D.size d.old }
     ensures history { D.history d.new ≡ D.history d.old }
-    ensures cause { HasCauseOf TxnRefusal.Io (D.faults d.old) (D.faults d.new) result }
-    ensures refusal { IfErr result (λ refusal. (refusal ≡ TxnRefusal.Io) ⊎ (refusal ≡ TxnRefusal.Memory)) }
+    ensures cause { HasCauseOf RunsRefusal.Io (D.faults d.old) (D.faults d.new) result }
     ensures syncs { D.syncs d.new ≡ D.syncs d.old }
     ensures bytes_read { RoseUpTo (length (page_list pages.now) * page_size) (D.bytes_read d.old) (D.bytes_read d.new) }
 {
@@ -161,5 +174,8 @@ pub(crate) fn find_runs<D: Disk>(
     for index in 0..count {
         scan_page(d, comparison, pages.page(index), &mut found, &mut block)?;
     }
-    Ok(found.finish()?)
+    match found.finish() {
+        Ok(runs) => Ok(runs),
+        Err(content) => Err(RunsRefusal::Memory { content }),
+    }
 }

@@ -113,8 +113,9 @@ impl Txn {
     /// may get `limit` bytes.
     ///
     /// `Nothing` comes just where no byte changes, outside the undo area and the word that leads to it, and the length
-    /// doesn't; `Full` just where a new undo area is wanted and with it the file would pass the limit. With these and
-    /// with `Memory` nothing is changed. A stop leaves a file that opens to the map before the commit. It takes no sync
+    /// doesn't; `Full` just where a new undo area is wanted and with it the file would pass the limit. `Memory` comes
+    /// only where something changes; where the file has no undo area yet, only if the new one has room, so `Full` never
+    /// waits for memory there. With all three nothing is changed. A stop leaves a file that opens to the map before the commit. It takes no sync
     /// where the area is kept, three where a first one is placed, five where the file has another one. It reads the
     /// file where the transaction has pages, and takes time linear in these and in the length of an undo area that is
     /// replaced.
@@ -136,7 +137,7 @@ impl Txn {
         ensures syncs { OnOk result ((D.syncs d.new ≡ D.syncs d.old) ⊎ RoseBy 3 (D.syncs d.old) (D.syncs d.new) ⊎ RoseBy 5 (D.syncs d.old) (D.syncs d.new)) }
     {
         let area = find_area(d, self.header.order, self.start)?;
-        let runs = self.changes(d, area)?;
+        let runs = self.changes(d, area, limit)?;
         if runs.len() == 0 && self.size == self.start {
             return Ok(ToCommit::Nothing);
         }

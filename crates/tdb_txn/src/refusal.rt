@@ -1,5 +1,6 @@
 //! Why a call on a transaction failed.
 
+use crate::comparing::RunsRefusal;
 use std::alloc::AllocError;
 use tdb_disk::DiskFault;
 use tdb_space::Io as SpaceIo;
@@ -60,5 +61,19 @@ impl From<SpaceIo> for TxnRefusal {
 
     fn from(_fault: SpaceIo) -> Self {
         TxnRefusal::Io
+    }
+}
+
+impl From<RunsRefusal> for TxnRefusal {
+    ghost use Rattle.std.specs.Prelude.{◌≡◌};
+    ghost use Rattle.tdb_txn.specs.Answered.{of_runs};
+
+    ghost from_gives = { λ refusal e. e ≡ of_runs refusal };
+
+    fn from(refusal: RunsRefusal) -> Self {
+        match refusal {
+            RunsRefusal::Io => TxnRefusal::Io,
+            RunsRefusal::Memory { content: _ } => TxnRefusal::Memory,
+        }
     }
 }

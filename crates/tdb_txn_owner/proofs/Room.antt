@@ -59,7 +59,7 @@ use Rattle.tdb_txn_owner.proofs.Sided.{same_task}
 
 -- A turn of a Prepare or of a Commit is one of the opener, of which the law counts the owners from 0.
 prepare_blocked : (s : PrepareStage) (limit : ℕ) (r : List ℕ) (owner byte : ℕ) → PrepareFull s limit r (Blocked owner byte) → PrepareFull s limit r (Blocked (law_opener owner) byte)
-prepare_blocked s limit r owner byte F = other_turn limit r (Blocked owner byte) (Blocked (law_opener owner) byte) (λ len need e. cc e) (λ e. cc e) (λ len need e. cc e) s F
+prepare_blocked s limit r owner byte F = other_turn limit r (Blocked owner byte) (Blocked (law_opener owner) byte) (λ len need e. cc e) (λ e. cc e) (λ len need e. cc e) (λ e. cc e) s F
 
 pub prepare_went_full : (s : PrepareStage) (limit : ℕ) (r : List ℕ) (changed : Bool) (turn : PrepareTurn) → PrepareFull s limit r (prepare_turn turn) → PrepareFull s limit r (law_turn (prepare_went changed turn).turn)
 prepare_went_full s limit r changed (Prepares.Step next) F = F

@@ -362,9 +362,9 @@ impl TxnOwner {
     /// the transaction it is that of the transaction's image for what a command stores: the record of the key isn't
     /// updated in place, no free record is long enough, and a new one, of `need` bytes with its header, behind the
     /// `len` bytes of the image passes the limit. At the third turn of a Commit or a Prepare it is that of the file for
-    /// a new undo area of `need` bytes, behind the `len` bytes of the image, where one is wanted; if the file has one
-    /// to be replaced, `Full` is sure only where none fits of those that may be wanted then. No other turn ends with
-    /// `Full`.
+    /// a new undo area of `need` bytes, behind the `len` bytes of the image, where one is wanted; for the first one of
+    /// a file it comes whether memory is wanting or not; if the file has one to be replaced, it is sure only where none
+    /// fits of those that may be wanted then. No other turn ends with `Full`.
     pub fn turn<D: Disk>(
         self,
         alloc: Global,

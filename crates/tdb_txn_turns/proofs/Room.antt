@@ -10,7 +10,7 @@ use Rattle.tdb_space.proofs.Runs.Stretches.{runs_one}
 use Rattle.tdb_law.specs.Commands.{Turn}
 use Rattle.tdb_law.specs.Commands.Reply.{Done, Full, Memory}
 use Rattle.tdb_law.specs.Commands.Turn.{Step, Blocked, Ends}
-use Rattle.tdb_txn.specs.Answered.{AnsweredRightly, ChangesNothing, WantsArea, first, other, PlannedFor, keeps, places}
+use Rattle.tdb_txn.specs.Answered.{AnsweredRightly, ChangesNothing, StarvesRightly, WantsArea, first, other, PlannedFor, keeps, places}
 use Rattle.tdb_txn.specs.AreaRoom.{new_area_length}
 use Rattle.tdb_txn.specs.Committing.{MayKeep}
 use Rattle.tdb_txn.specs.Txn.{txn_image, txn_start}
@@ -62,7 +62,7 @@ module _ (txn : Txn) (limit : ℕ) (r : List ℕ) where
   none_fits : (len need : ℕ) → word (form_of r).order r 44 ≡ 0 → HasNoArea txn limit r len need → NoneFits txn limit r
   none_fits len need absent N y c fs W = omega (arith, N.area.past, N.area.len_is, first_length len need y c fs absent N W)
 
-  module _ (turn : Turn) (only : (len need : ℕ) → turn ≡ Ends (Full len need) → HasNoArea txn limit r len need)
+  module _ (turn : Turn) (only : (len need : ℕ) → turn ≡ Ends (Full len need) → HasNoArea txn limit r len need) (starved : turn ≡ Ends Memory → StarvesRightly txn limit r)
       (always : (len need : ℕ) → HasNoArea txn limit r len need → NoneFits txn limit r → ((l : ℕ) × (n : ℕ) × (turn ≡ Ends (Full l n))) ⊎ (turn ≡ Ends Memory)) where
     pub as_planned : FullAsPlanned txn limit r turn
     as_planned = record {
@@ -73,16 +73,16 @@ module _ (txn : Txn) (limit : ℕ) (r : List ℕ) where
             let M = only full.0 full.1 full.2 in
             let same : full.0 ≡ len = M.area.len_is ∙ sym N.area.len_is in
             let more : full.1 ≡ need = M.area.need_is ∙ first_length len need M.area.x M.area.b M.area.runs absent N M.area.wants in
-            inl (subst (λ l. turn ≡ Ends (Full l need)) same (subst (λ n. turn ≡ Ends (Full full.0 n)) more full.2))
-        | inr starves ↦ inr starves
+            subst (λ l. turn ≡ Ends (Full l need)) same (subst (λ n. turn ≡ Ends (Full full.0 n)) more full.2)
+        | inr starves ↦ absurd ((starved starves).room len need absent N.area)
       ];
     }
 
   pub planned_nothing : ChangesNothing txn r → FullAsPlanned txn limit r (Ends Done)
-  planned_nothing nothing = as_planned (Ends Done) (λ len need e. absurd (cc e)) (λ len need N none. absurd (N.changes nothing))
+  planned_nothing nothing = as_planned (Ends Done) (λ len need e. absurd (cc e)) (λ e. absurd (cc e)) (λ len need N none. absurd (N.changes nothing))
 
   pub planned_ready : (h : History) (plan : Plan) → PlannedFor txn limit r h plan → FullAsPlanned txn limit r Step
-  planned_ready h plan P = as_planned Step (λ len need e. absurd (cc e)) (λ len need N none. absurd (ready_not N.area.x N.area.b N.area.runs h plan N.area.wants none P))
+  planned_ready h plan P = as_planned Step (λ len need e. absurd (cc e)) (λ e. absurd (cc e)) (λ len need N none. absurd (ready_not N.area.x N.area.b N.area.runs h plan N.area.wants none P))
 
   pub planned_full : (h : History) (len need : ℕ) → AnsweredRightly txn limit r h (Err (TxnRefusal.Full len need)) → FullAsPlanned txn limit r (Ends (Full len need))
   planned_full h len need A = as_planned (Ends (Full len need))
@@ -90,10 +90,11 @@ module _ (txn : Txn) (limit : ℕ) (r : List ℕ) where
       let here : len ≡ l = cc in
       let more : need ≡ n = cc in
       subst (λ z. HasNoArea txn limit r z n) here (subst (HasNoArea txn limit r len) more (record { changes = A.0; area = A.1 })))
+      (λ e. absurd (cc e))
       (λ l n N none. inl (len, need, refl))
 
-  pub planned_memory : FullAsPlanned txn limit r (Ends Memory)
-  planned_memory = as_planned (Ends Memory) (λ len need e. absurd (cc e)) (λ len need N none. inr refl)
+  pub planned_memory : StarvesRightly txn limit r → FullAsPlanned txn limit r (Ends Memory)
+  planned_memory S = as_planned (Ends Memory) (λ len need e. absurd (cc e)) (λ e. S) (λ len need N none. inr refl)
 
 -- a turn of a Prepare that doesn't plan never ends with Full
 early_never : (numbered : Bool) (s : PrepareStage) (turn : PrepareTurn) → PrepareLeads (at_stage numbered s) turn → (stage_steps s ≡ 2 → ⊥) → NeverFull (prepare_turn turn)
@@ -113,12 +114,12 @@ early_full numbered (Planned state) limit r turn leads early = early_never numbe
 early_full numbered (Filled state) limit r turn leads early = early_never numbered (Filled state) turn leads early
 
 -- what is so of a turn that ends with neither Full nor Memory is so of each other one that doesn't end with Full
-module _ (limit : ℕ) (r : List ℕ) (u v : Turn) (fits : (len need : ℕ) → u ≡ Ends (Full len need) → ⊥) (has : u ≡ Ends Memory → ⊥) (not : (len need : ℕ) → v ≡ Ends (Full len need) → ⊥) where
+module _ (limit : ℕ) (r : List ℕ) (u v : Turn) (fits : (len need : ℕ) → u ≡ Ends (Full len need) → ⊥) (has : u ≡ Ends Memory → ⊥) (not : (len need : ℕ) → v ≡ Ends (Full len need) → ⊥) (goes : v ≡ Ends Memory → ⊥) where
   pub other_turn : (s : PrepareStage) → PrepareFull s limit r u → PrepareFull s limit r v
   other_turn Unchanged F = never v not
   other_turn (Begun txn) F = never v not
   other_turn (Records txn) F = never v not
-  other_turn (Locked txn) F = as_planned txn limit r v (λ len need e. absurd (not len need e))
+  other_turn (Locked txn) F = as_planned txn limit r v (λ len need e. absurd (not len need e)) (λ e. absurd (goes e))
       (λ len need N none. elim (F.always len need N none) [ inl full ↦ absurd (fits full.0 full.1 full.2) | inr starves ↦ absurd (has starves) ])
   other_turn (Planned state) F = never v not
   other_turn (Filled state) F = never v not
@@ -130,4 +131,4 @@ commit_full s limit r (To.Blocked owner byte again) F = F
 commit_full s limit r To.Nothing F = F
 commit_full s limit r (To.Full len need) F = F
 commit_full s limit r To.Memory F = F
-commit_full s limit r (To.Done state) F = other_turn limit r (Ends Done) Step (λ len need e. cc e) (λ e. cc e) (λ len need e. cc e) s F
+commit_full s limit r (To.Done state) F = other_turn limit r (Ends Done) Step (λ len need e. cc e) (λ e. cc e) (λ len need e. cc e) (λ e. cc e) s F

@@ -37,13 +37,13 @@ pub record FullJustWhere (Lacks : ℕ → ℕ → Type 0) (turn : Turn) : Type 0
 abbrev pub NeverFull : Turn → Type 0
 NeverFull turn = FullJustWhere (λ len need. ⊥) turn
 
--- The turn that plans ends with Full only where the plan has no room, with its numbers. It does end so, unless memory
--- is wanting, where the plan has no room and the file no undo area yet; and where the file has one that is to be
--- replaced, if none of the areas fits that may be wanted then.
+-- The turn that plans ends with Full only where the plan has no room, with its numbers. It does end so where the plan
+-- has no room and the file no undo area yet; and where the file has one that is to be replaced, if none of the areas
+-- fits that may be wanted then, unless memory is wanting.
 pub record FullAsPlanned (txn : Txn) (limit : ℕ) (r : List ℕ) (turn : Turn) : Type 0 where
   pub only : (len need : ℕ) → turn ≡ Ends (Full len need) → HasNoArea txn limit r len need
   pub always : (len need : ℕ) → HasNoArea txn limit r len need → NoneFits txn limit r → ((l : ℕ) × (n : ℕ) × (turn ≡ Ends (Full l n))) ⊎ (turn ≡ Ends Memory)
-  pub first : (len need : ℕ) → HasNoArea txn limit r len need → word (form_of r).order r area_head ≡ 0 → (turn ≡ Ends (Full len need)) ⊎ (turn ≡ Ends Memory)
+  pub first : (len need : ℕ) → HasNoArea txn limit r len need → word (form_of r).order r area_head ≡ 0 → turn ≡ Ends (Full len need)
 
 -- the third turn of a Prepare plans, and no other ends with Full
 abbrev pub PrepareFull : PrepareStage → ℕ → List ℕ → Turn → Type 0

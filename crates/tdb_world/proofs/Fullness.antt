@@ -31,7 +31,7 @@ use Rattle.tdb_law.specs.OneAside.Shutting.{IsShutOut}
 use Rattle.tdb_law.proofs.OneAside.Shut.{others_shut_out}
 use Rattle.tdb_steps.specs.Room.{stored_pair, HasNoRoom}
 use Rattle.tdb_txn_turns.specs.Room.{NeverFull, PrepareFull}
-use Rattle.tdb_txn_turns.proofs.Room.{never, planned_memory}
+use Rattle.tdb_txn_turns.proofs.Room.{never}
 use Rattle.tdb_txn_turns.specs.declared.committing.Committing.TheVariants as Commits
 use Rattle.tdb_txn_turns.specs.declared.preparing.PrepareStage.{PrepareStage}
 use Rattle.tdb_txn_turns.specs.declared.preparing.PrepareStage.TheVariants as Plans
@@ -242,23 +242,23 @@ blocked_full w holder h kind ws owner byte image past s A = stage_blocked kind (
 never_starved : NeverFull (Ends Memory)
 never_starved = never (Ends Memory) (λ len need e. cc e)
 
-plan_starved : (p : PrepareStage) (limit : ℕ) (r : List ℕ) → PrepareFull p limit r (Ends Memory)
-plan_starved Plans.Unchanged limit r = never_starved
-plan_starved (Plans.Begun txn) limit r = never_starved
-plan_starved (Plans.Records txn) limit r = never_starved
-plan_starved (Plans.Locked txn) limit r = planned_memory txn limit r
-plan_starved (Plans.Planned state) limit r = never_starved
-plan_starved (Plans.Filled state) limit r = never_starved
+plan_starved : (numbered : Bool) (p : PrepareStage) (kind : Kind) → plan_wants numbered p ≡ Wants.Records kind → (limit : ℕ) (r : List ℕ) → PrepareFull p limit r (Ends Memory)
+plan_starved numbered Plans.Unchanged kind ws limit r = never_starved
+plan_starved numbered (Plans.Begun txn) kind ws limit r = never_starved
+plan_starved numbered (Plans.Records txn) kind ws limit r = never_starved
+plan_starved numbered (Plans.Locked txn) kind ws limit r = absurd (cc ws)
+plan_starved numbered (Plans.Planned state) kind ws limit r = never_starved
+plan_starved numbered (Plans.Filled state) kind ws limit r = never_starved
 
-stage_starved : (f : Form) (limit : ℕ) (k : Known) (x : Own) (stage : Stage) → StageFull f limit stage k x (Ends Memory)
-stage_starved f limit k x (At.Starting st) = never_starved
-stage_starved f limit k x (At.Open txn None) = never_starved
-stage_starved f limit k x (At.Open txn (Some c)) = record { only = λ len need e. absurd (cc e); always = λ len need L. inr refl }
-stage_starved f limit k x (At.Committing (Commits.Preparing p)) = plan_starved p.stage limit k.file
-stage_starved f limit k x (At.Committing (Commits.Finishing c)) = never_starved
-stage_starved f limit k x (At.Preparing p) = plan_starved p.stage limit k.file
-stage_starved f limit k x (At.Prepared left command) = never_starved
-stage_starved f limit k x (At.Finishing c) = never_starved
+stage_starved : (kind : Kind) (f : Form) (limit : ℕ) (k : Known) (x : Own) (stage : Stage) → stage_wants stage ≡ Wants.Records kind → StageFull f limit stage k x (Ends Memory)
+stage_starved kind f limit k x (At.Starting st) ws = never_starved
+stage_starved kind f limit k x (At.Open txn None) ws = never_starved
+stage_starved kind f limit k x (At.Open txn (Some c)) ws = record { only = λ len need e. absurd (cc e); always = λ len need L. inr refl }
+stage_starved kind f limit k x (At.Committing (Commits.Preparing p)) ws = plan_starved p.numbered p.stage kind ws limit k.file
+stage_starved kind f limit k x (At.Committing (Commits.Finishing c)) ws = never_starved
+stage_starved kind f limit k x (At.Preparing p) ws = plan_starved p.numbered p.stage kind ws limit k.file
+stage_starved kind f limit k x (At.Prepared left command) ws = never_starved
+stage_starved kind f limit k x (At.Finishing c) ws = never_starved
 
-pub starved_full : (w : Whole) (holder : HolderState) (h : History) → FullAside w holder h (Ends Memory)
-starved_full w holder h image past s A = stage_starved (form_at w) (options_at w).limit A.known s.own holder.stage
+pub starved_full : (w : Whole) (holder : HolderState) (h : History) (kind : Kind) → stage_wants holder.stage ≡ Wants.Records kind → FullAside w holder h (Ends Memory)
+starved_full w holder h kind ws image past s A = stage_starved kind (form_at w) (options_at w).limit A.known s.own holder.stage ws

@@ -1,9 +1,11 @@
 -- One page more was compared, and the end.
-use Rattle.std.proofs.Common.{◌≡◌, ◌+◌, ◌*◌, ◌<◌, ◌≤◌, ◌∙◌, ℕ, get_or, length, refl, sym, subst, ap, inl, inr, arith}
+use Rattle.std.proofs.Common.{◌≡◌, ◌+◌, ◌*◌, ◌<◌, ◌≤◌, ◌⊎◌, ◌∙◌, ℕ, List, slice_index, get_or, length, refl, sym, subst, ap, inl, inr, arith}
 use Rattle.std.proofs.lemmas.Bool.{cases_lt}
 use Rattle.tdb_disk.specs.History.{seen}
+use Rattle.tdb_space.specs.Extents.{Extent}
+use Rattle.tdb_space.specs.Runs.{Changed}
 use Rattle.tdb_txn.specs.Found.{Blanked}
-use Rattle.tdb_txn.specs.Pages.{page_size}
+use Rattle.tdb_txn.specs.Pages.{page_size, byte_over}
 use Rattle.tdb_txn.specs.Stock.{page_list}
 use Rattle.tdb_txn.specs.declared.page.Page.{Page}
 use Rattle.tdb_txn.proofs.Scans.{ends_later}
@@ -70,18 +72,33 @@ loop-index-preserved g c =
       syncs = c.scan_page.ensures.syncs ∙ was.syncs;
     }
 
-pub returns-clause-runs : goal.returns-clause-runs
-returns-clause-runs g c told x b blanked now =
-    let ps = page_list c.args.pages.now in
+-- all that changes was looked at
+looked_all : (ps : List Page) (x b : List ℕ) (old index next : ℕ) (skip : Extent)
+    → ((j : ℕ) (d : Page) → j < index → ((get_or ps j d).number * page_size + page_size ≤ next) ⊎ (next ≡ old))
+    → ((j : ℕ) (d : Page) → index ≤ j → j < length ps → (i : ℕ) → i < old → i < (get_or ps j d).number * page_size)
+    → ((i : ℕ) → i < old → slice_index b i ≡ byte_over ps x i) → (i : ℕ) → Changed x b old skip i → i < next
+looked_all ps x b old index next skip before far now i here = elim (cases_lt i next) [
+  | inl low ↦ low
+  | inr from ↦ absurd (here.differs (now i here.low ∙ over_gap ps x index next old i before (λ j d over inside. far j d over inside i here.low) from here.low))
+]
+
+pub returns-in-Ok-clause-runs : goal.returns-in-Ok-clause-runs
+returns-in-Ok-clause-runs g c told x b blanked now =
     let was = c.loop-index.invariant in
     let old = c.args.comparison.now.old_length in
-    c.in_ok-finish.ensures.runs x b old c.args.comparison.now.skip
-    (λ i here. elim (cases_lt i c.loop-index.found.next) [
-      | inl low ↦ low
-      | inr from ↦ absurd (here.differs (now i here.low ∙ over_gap ps x c.loop-index.index c.loop-index.found.next old i was.before
-          (λ j d over inside. (let far = c.position-count.ensures.behind j d (omega (arith, over, c.loop-index-test.false, c.loop-index.auto.index-end)) inside in omega (arith, far, here.low))) from here.low))
-    ])
+    c.in-Ok.ensures.runs x b old c.args.comparison.now.skip
+    (looked_all (page_list c.args.pages.now) x b old c.loop-index.index c.loop-index.found.next c.args.comparison.now.skip was.before
+    (λ j d over inside i low. let far = c.position-count.ensures.behind j d (omega (arith, over, c.loop-index-test.false, c.loop-index.auto.index-end)) inside in omega (arith, far, low)) now)
     (was.found told x b blanked now)
 
-pub returns-clause-ends : goal.returns-clause-ends
-returns-clause-ends g c = ends_later _ c.loop-index.found.next c.args.comparison.now.old_length c.in_ok-finish.ensures.ends c.loop-index.invariant.within
+pub returns-in-Err-clause-starved : goal.returns-in-Err-clause-starved
+returns-in-Err-clause-starved g c told x b blanked now =
+    let was = c.loop-index.invariant in
+    let old = c.args.comparison.now.old_length in
+    c.in-Err.ensures.starved x b old c.args.comparison.now.skip
+    (looked_all (page_list c.args.pages.now) x b old c.loop-index.index c.loop-index.found.next c.args.comparison.now.skip was.before
+    (λ j d over inside i low. let far = c.position-count.ensures.behind j d (omega (arith, over, c.loop-index-test.false, c.loop-index.auto.index-end)) inside in omega (arith, far, low)) now)
+    (was.found told x b blanked now)
+
+pub returns-in-Ok-clause-ends : goal.returns-in-Ok-clause-ends
+returns-in-Ok-clause-ends g c = ends_later _ c.loop-index.found.next c.args.comparison.now.old_length c.in-Ok.ensures.ends c.loop-index.invariant.within

@@ -1,8 +1,7 @@
 -- The bytes of a page were compared, and none between it and what was looked at before changes.
 use Rattle.std.proofs.Common.{◌≡◌, ◌+◌, ◌*◌, ◌≤◌, ℕ, List, length, slice_index, sym, subst, arith, rules}
-use Rattle.tdb_space.specs.Runs.{Changed}
 use Rattle.tdb_txn.specs.Pages.{page_size}
-use Rattle.tdb_txn.proofs.Scans.{scan_skip}
+use Rattle.tdb_txn.proofs.Gathered.{found_skip}
 use Rattle.tdb_txn.proofs.comparing.scan_page.Goals as goal
 
 pub returns-clause-found : goal.returns-clause-found
@@ -13,6 +12,6 @@ returns-clause-found g c told x b blanked now between so_far =
     let found = c.args.found.now in
     let fits : at + length c.read_old.new.buf ≤ old = search rules in
     let small : length c.read_old.new.buf ≤ page_size = search rules in
-    c.in_ok-scan_bytes.ensures.found x b old fits (c.in_ok-read_old.ensures.bytes told x blanked)
+    c.scan_bytes.ensures.found x b old fits (c.in_ok-read_old.ensures.bytes told x blanked)
     (λ k low. subst (λ (ys : List ℕ). slice_index ys k ≡ slice_index b (at + k)) (sym c.deref.ensures.value) (now k (omega (arith, low, small)) (omega (arith, low, fits))))
-    (scan_skip (Changed x b old skip) found.list found.from found.to found.next at c.requires.behind (λ i from to here. here.differs (between i from to)) so_far)
+    (found_skip x b old skip found at c.requires.behind (λ i from to here. here.differs (between i from to)) so_far)

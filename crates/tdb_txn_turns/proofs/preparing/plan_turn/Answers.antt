@@ -74,4 +74,10 @@ returns-in-Err-Full-clause-full g c told r b R =
     planned_full a.txn a.limit r new i.len i.need A
 
 pub returns-in-Err-Memory-clause-full : goal.returns-in-Err-Memory-clause-full
-returns-in-Err-Memory-clause-full g c told r b R = planned_memory c.args.txn c.args.limit r
+returns-in-Err-Memory-clause-full g c told r b R =
+    let i = c.in-Err-Memory in
+    let a = c.args in
+    let h = g.D.Disk.history a.d.now in
+    let new = g.D.Disk.history c.plan.new.d in
+    planned_memory a.txn a.limit r
+    (plan_answer a.txn a.limit r b h new R (Err TxnRefusal.Memory) (λ quiet may. subst (λ x. AnsweredRightly a.txn a.limit (seen h) new (Err x)) i.field-0-is (i.ensures.answered told quiet may)))

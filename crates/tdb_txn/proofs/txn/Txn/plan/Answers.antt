@@ -7,6 +7,7 @@ use Rattle.tdb_space.specs.Extents.{Extent}
 use Rattle.tdb_space.specs.Form.{Form, form_of}
 use Rattle.tdb_space.specs.Runs.{ChangedRuns}
 use Rattle.tdb_space.specs.Planned.{content_length}
+use Rattle.tdb_txn.specs.Answered.{RunsRefused}
 use Rattle.tdb_txn.specs.AreaExtent.{IsAreaExtent}
 use Rattle.tdb_txn.specs.Committing.{MayCommit}
 use Rattle.tdb_txn.specs.Txn.{txn_image, txn_start}
@@ -34,6 +35,18 @@ returns-in_err-area-clause-stops g c told quiet may =
 pub returns-in_err-runs-clause-stops : goal.returns-in_err-runs-clause-stops
 returns-in_err-runs-clause-stops g c told quiet may =
     still_stops (g.D.Disk.history c.args.d.now) (g.D.Disk.history c.changes.new.d) quiet (c.changes.ensures.history ∙ c.find_area.ensures.history) may.before
+
+pub returns-in_err-runs-clause-answered : goal.returns-in_err-runs-clause-answered
+returns-in_err-runs-clause-answered g c told quiet may =
+    let h = g.D.Disk.history c.args.d.now in
+    let r = seen h in
+    let t = c.args.self in
+    let e = c.in_ok-area.area in
+    let is = found t r e may (λ f order. c.in_ok-area.ensures.found told (form_of r) (sym (ap (λ (f : Form). f.order) may.header)) may.before.area_ok) in
+    let p = err_from_is_err_and c.from_residual-in_err-runs.result c.from_residual-in_err-runs.ensures.1 in
+    rw (p.1, p.2)
+    (Plans.runs_refused t c.args.limit r e is (g.D.Disk.history c.changes.new.d) c.in_err-runs.field-0.0
+    (subst (λ (z : History). RunsRefused t c.args.limit (seen z) e c.in_err-runs.field-0.0) c.find_area.ensures.history (c.in_err-runs.ensures.refusal told)))
 
 pub returns-then-self-clause-stops : goal.returns-then-self-clause-stops
 returns-then-self-clause-stops g c told quiet may =

@@ -164,4 +164,5 @@ pub returns-in-Starved-clause-full : goal.returns-in-Starved-clause-full
 returns-in-Starved-clause-full g c = λ told.
     let w = with_aside c.args.self.now c.args.holder in
     let history = g.D.Disk.history c.args.d.now in
-    subst (FullAside w c.args.holder history) (sym (ap law_turn c.starve.ensures.turn)) (starved_full w c.args.holder history)
+    let wants = c.in-Starved.ensures.starved refl in
+    subst (FullAside w c.args.holder history) (sym (ap law_turn c.starve.ensures.turn)) (starved_full w c.args.holder history wants.0 (sym c.wants-wants.ensures.stage ∙ wants.1))
