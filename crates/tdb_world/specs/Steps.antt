@@ -1,11 +1,13 @@
 -- What a call leads to, from each state that the world may have to one that it has afterwards.
-use Rattle.std.specs.Prelude.{ℕ, ◌≡◌, ◌≢◌, Some, None, true, false}
+use Rattle.std.specs.Prelude.{ℕ, ◌≡◌, ◌≢◌, ◌<◌, Some, None, true, false}
 use Rattle.tdb_disk.specs.History.{History}
 use Rattle.tdb_law.specs.Commands.{Command, Turn}
+use Rattle.tdb_law.specs.Commands.Turn.{Blocked}
 use Rattle.tdb_law.specs.Events.{Joins, Dies, Given, Undoes}
 use Rattle.tdb_law.specs.Openers.{Task}
 use Rattle.tdb_law.specs.Turned.{Turned}
 use Rattle.tdb_law.specs.World.{State}
+use Rattle.tdb_steps.specs.Holdings.{table_of}
 use Rattle.tdb_txn_owner.specs.Holders.{stage_depth, HolderState}
 use Rattle.tdb_txn_owner.specs.Stages.{stage_task, MayBeGiven}
 use Rattle.tdb_commands.specs.InLaw.{law_opener}
@@ -40,6 +42,12 @@ HasRoom w who c = (h : HolderState) → w.aside ≡ Some h → who ≡ h.owner �
 abbrev pub TurnLeads : Whole → Whole → History → History → ℕ → Turn → Type 0
 TurnLeads old new h later who turn =
     (state : State) → IsStateOf old h state → (after : State) × (task : Task) × IsStateOf new later after × Turned (form_at old) state (law_opener who) task turn after
+
+-- The first turn of a Start is blocked by the one aside, where that holds the lock byte of transactions: so it never
+-- ends for want of memory there.
+abbrev pub StartWaits : Whole → ℕ → Turn → Type 0
+StartWaits w who turn =
+    is_starting w.starts (law_opener who) ≡ true → IsAmong w who → (h : HolderState) → w.aside ≡ Some h → 0 < table_of h.locks h.owner 8 → turn ≡ Blocked (law_opener h.owner) 8
 
 -- an opener joins, and one is given a command
 abbrev pub JoinLeads : Whole → Whole → History → ℕ → Type 0

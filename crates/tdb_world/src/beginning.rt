@@ -1,16 +1,17 @@
 //! The first turn of a Start.
-ghost use Rattle.std.specs.Prelude.{◌≡◌, ◌≤◌, ℕ, List, slice_set, IsTrue, IfOk, OnOk, Some, true, false};
+ghost use Rattle.std.specs.Prelude.{◌≡◌, ◌≤◌, ◌<◌, ℕ, List, slice_set, IsTrue, IfOk, OnOk, Some, true, false};
 ghost use Rattle.tdb_disk.specs.Count.{HasCause};
 ghost use Rattle.tdb_disk.specs.History.{History, seen};
 ghost use Rattle.tdb_disk.specs.Stop.{LeavesOnly};
 ghost use Rattle.tdb_txn_owner.specs.Holders.{HolderState};
 ghost use Rattle.tdb_law.specs.Commands.Reply.{Full};
-ghost use Rattle.tdb_law.specs.Commands.Turn.{Ends};
+ghost use Rattle.tdb_law.specs.Commands.Turn.{Blocked, Ends};
 ghost use Rattle.tdb_law.specs.World.{State};
 ghost use Rattle.tdb_commands.specs.InLaw.{law_opener, law_turn};
 ghost use Rattle.tdb_world.specs.Whole.{form_at, is_starting, WorldFits};
 ghost use Rattle.tdb_world.specs.States.{IsStateOf};
-ghost use Rattle.tdb_world.specs.Steps.{HasCommand, IsAmong, TurnLeads};
+ghost use Rattle.tdb_steps.specs.Holdings.{table_of};
+ghost use Rattle.tdb_world.specs.Steps.{HasCommand, IsAmong, StartWaits, TurnLeads};
 ghost use Rattle.tdb_world.specs.Room.{FullOfTurn};
 ghost use Rattle.tdb_world.specs.Stops.{IsSafe, TurnMayLeave};
 ghost use Rattle.tdb_txn_turns.specs.declared.starting.Starting.TheVariants as Starting;
@@ -46,6 +47,7 @@ impl AllOpeners {
         ensures fits { (img : List ℕ) (size : ℕ) → WorldFits self.old img size → WorldFits self.new img size }
         ensures rest { record self.new { starts = self.old.starts } ≡ self.old }
         ensures step { result ≡ Turn.Step → ⊥ }
+        ensures waits { (h : HolderState) → self.old.aside ≡ Some h → 0 < table_of h.locks h.owner 8 → law_turn result ≡ Blocked (law_opener h.owner) 8 }
         ensures full { (len need : ℕ) → law_turn result ≡ Ends (Full len need) → ⊥ }
         ensures turned { (img : List ℕ) (size : ℕ) (h : History) → WorldFits self.old img size → TurnLeads self.old self.new h h who (law_turn result) }
     {
@@ -73,6 +75,7 @@ impl AllOpeners {
         ensures fresh { OnOk result (self.new.stale ≡ false) }
         ensures turned { IfOk result (λ turn. IsTrue D.tells → TurnLeads self.old self.new (D.history d.old) (D.history d.new) who (law_turn turn)) }
         ensures full { IfOk result (λ turn. IsTrue D.tells → FullOfTurn self.old (D.history d.old) who (law_turn turn)) }
+        ensures waits { IfOk result (λ turn. StartWaits self.old who (law_turn turn)) }
         ensures stops { IsTrue D.tells → (state : State) → let f = form_at self.old in IsStateOf self.old (D.history d.old) state → IsSafe f (D.history d.old)
             → LeavesOnly (D.history d.old) (D.history d.new) (TurnMayLeave f state (law_opener who)) }
         ensures safe { OnOk result (IsTrue D.tells → (state : State) → let f = form_at self.old in IsStateOf self.old (D.history d.old) state → IsSafe f (D.history d.old)

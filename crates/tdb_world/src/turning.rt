@@ -7,7 +7,7 @@ ghost use Rattle.tdb_law.specs.World.{State};
 ghost use Rattle.tdb_commands.specs.InLaw.{law_opener, law_turn};
 ghost use Rattle.tdb_world.specs.Whole.{form_at, WorldFits};
 ghost use Rattle.tdb_world.specs.States.{IsStateOf};
-ghost use Rattle.tdb_world.specs.Steps.{HasCommand, TurnLeads};
+ghost use Rattle.tdb_world.specs.Steps.{HasCommand, StartWaits, TurnLeads};
 ghost use Rattle.tdb_world.specs.Room.{FullOfTurn};
 ghost use Rattle.tdb_world.specs.Stops.{IsChanging, IsSafe, TurnMayLeave};
 ghost use Rattle.tdb_world.specs.Prepared.{GoesAsPrepared};
@@ -22,7 +22,8 @@ impl AllOpeners {
     /// Takes one turn of the opener's command. After `Io` no other turn may be taken in the world: the disk failed, or
     /// a check found a fault in the file, which no turn leaves. A Commit of a prepared transaction is never blocked,
     /// and is done after at most four turns of its opener. `Full` comes exactly where the image that the opener sees
-    /// has no room, up to the limit, for what the command stores.
+    /// has no room, up to the limit, for what the command stores. The first turn of a Start is blocked by the one aside
+    /// where that holds the lock byte of transactions, and never wants memory there.
     ///
     /// Cost: that of the command's turn, and a search in the lock table; nothing is passed over that doesn't belong to
     /// it. A turn of a Start, a Commit or a Prepare, or one that ends a transaction, syncs the disk as often as its
@@ -36,6 +37,7 @@ impl AllOpeners {
         ensures fresh { OnOk result (self.new.stale ≡ false) }
         ensures turned { IfOk result (λ turn. IsTrue D.tells → TurnLeads self.old self.new (D.history d.old) (D.history d.new) who (law_turn turn)) }
         ensures full { IfOk result (λ turn. IsTrue D.tells → FullOfTurn self.old (D.history d.old) who (law_turn turn)) }
+        ensures waits { IfOk result (λ turn. StartWaits self.old who (law_turn turn)) }
         ensures prepared { IfOk result (λ turn. IsTrue D.tells → GoesAsPrepared self.old (D.history d.old) (law_opener who) (law_turn turn)) }
         ensures stops { IsTrue D.tells → (state : State) → let f = form_at self.old in IsStateOf self.old (D.history d.old) state → IsSafe f (D.history d.old) → (IsChanging f state (law_opener who) → ⊥)
             → LeavesOnly (D.history d.old) (D.history d.new) (TurnMayLeave f state (law_opener who)) }

@@ -18,7 +18,8 @@ impl<D: Disk> World<D> {
     /// `Full` comes exactly where there is no room for what the command stores, up to the limit, with the length of the
     /// image and what it needs: outside a transaction in the file, at the turn in which it takes a record, and inside
     /// one in the image of the transaction. Of a Commit and a Prepare it comes at the turn that plans, and only where
-    /// a new undo area has no room in the file.
+    /// a new undo area has no room in the file. The first turn of a Start is `Blocked` by the opener that holds the lock
+    /// byte of transactions, and never ends with `Memory` there.
     ///
     /// Cost: that of the command's turn, and a search in the lock table; nothing is passed over that doesn't belong to
     /// it. A turn of a Start, a Commit or a Prepare, or one that ends a transaction, syncs the disk as often as its

@@ -1,7 +1,10 @@
 -- The Start waits for who is aside, or ends and leaves all else as it is.
-use Rattle.std.proofs.Common.{◌≡◌, ℕ, false, slice_set, sym, ◌∙◌, ap, subst}
+use Rattle.std.proofs.Common.{◌≡◌, ◌<◌, ℕ, false, slice_set, Option, None, Some, sym, ◌∙◌, ap, subst}
+use Rattle.std.proofs.lemmas.Bool.{false≢true}
 use Rattle.tdb_law.specs.Commands.Reply.{Memory}
 use Rattle.tdb_law.specs.Commands.Turn.{Blocked, Ends}
+use Rattle.tdb_steps.specs.Holdings.{table_of}
+use Rattle.tdb_txn_owner.specs.Holders.{HolderState}
 use Rattle.tdb_commands.specs.InLaw.{law_opener}
 use Rattle.tdb_world.specs.Steps.{TurnLeads}
 use Rattle.tdb_world.specs.Whole.{Whole, WorldFits}
@@ -30,3 +33,20 @@ returns-clause-turned c img size h F =
     let now : c.drop_start.new.self ≡ without c.args.who w = c.drop_start.ensures in
     let there = ap (λ (z : Whole). z.aside) (sym c.self.view_is) ∙ c.in-Some.is in
     subst (λ z. TurnLeads w z h h c.args.who (Ends Memory)) (sym now) (start_starved w (law_opener c.args.who) img size F c.requires.begun c.requires.fresh c.in-Some.holder there h)
+
+-- the one aside is one opener
+abbrev held_by : HolderState → Option HolderState → HolderState
+held_by h None = h
+held_by h (Some other) = other
+
+pub returns-then-holds-clause-waits : goal.returns-then-holds-clause-waits
+returns-then-holds-clause-waits c h there some =
+    let mine = ap (λ (z : Whole). z.aside) (sym c.self.view_is) ∙ c.in-Some.is in
+    let same : c.in-Some.holder ≡ h = ap (held_by h) (sym mine ∙ there) in
+    ap (λ o. Blocked (law_opener o) 8) (c.owner.ensures ∙ ap (λ (z : HolderState). z.owner) same)
+
+pub returns-clause-waits : goal.returns-clause-waits
+returns-clause-waits c h there some =
+    let mine = ap (λ (z : Whole). z.aside) (sym c.self.view_is) ∙ c.in-Some.is in
+    let same : c.in-Some.holder ≡ h = ap (held_by h) (sym mine ∙ there) in
+    absurd (false≢true (sym c.if-holds.false ∙ c.holds.ensures.table.1 (subst (λ (z : HolderState). 0 < table_of z.locks z.owner 8) (sym same) some)))

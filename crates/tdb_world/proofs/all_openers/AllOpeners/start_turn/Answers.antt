@@ -130,3 +130,15 @@ returns-clause-full g c =
     (λ turn full told state S. full_never (has_start c.requires.among c.requires.begun)
     (start_full (with_aside c.drop_start.new.self holder) h (law_turn turn) holder Starts.Begun (ap (λ (z : HolderState). z.stage) c.start-holder.ensures) refl (full told) state (aside_state g c state S)))
     c.step_aside.ensures.full
+
+pub returns-then-is_some-clause-waits : goal.returns-then-is_some-clause-waits
+returns-then-is_some-clause-waits g c begun among h there some = c.barred_start.ensures.waits h there some
+
+any_ok : {V E : Type 0} (r : Result V E) (P : V → Type 0) → ((v : V) → P v) → IfOk r P
+any_ok (Ok v) P p = p v
+any_ok (Err e) P p = tt
+
+pub returns-clause-waits : goal.returns-clause-waits
+returns-clause-waits g c =
+    let nobody = ap (λ (z : Whole). z.aside) (sym c.self.view_is) ∙ none_aside c.self.inside.aside (sym c.is_some.ensures ∙ c.if-is_some.false) in
+    any_ok c.step_aside.result _ (λ turn begun among h there some. absurd (cc (sym nobody ∙ there)))

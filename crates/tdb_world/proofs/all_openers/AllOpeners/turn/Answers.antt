@@ -6,11 +6,15 @@ use Rattle.tdb_openers.proofs.ExplicitLocks.Aside.{on_one}
 use Rattle.tdb_world.proofs.PreparedTurns.{prepared_leads}
 use Rattle.tdb_world.proofs.Looking.{looks_among, looks_unstarted}
 use Rattle.tdb_world.proofs.Synced.{other_syncs, start_syncs}
-use Rattle.std.proofs.Common.{Ok, Err, subst, sym, ◌∙◌}
+use Rattle.std.proofs.Common.{◌≡◌, ℕ, false, Ok, Err, None, Some, subst, sym, ◌∙◌, ap}
+use Rattle.std.proofs.lemmas.Bool.{false≢true}
 use Rattle.std.specs.Prelude.{Result, IfOk}
 use Rattle.tdb_commands.specs.InLaw.{law_opener}
 use Rattle.tdb_world.specs.Syncs.{OnlyLooks}
-use Rattle.tdb_world.specs.Whole.{form_at}
+use Rattle.tdb_txn_owner.specs.Holders.{HolderState}
+use Rattle.tdb_world.specs.Steps.{IsAmong}
+use Rattle.tdb_world.specs.Steps.IsAmong.{among_all, among_others}
+use Rattle.tdb_world.specs.Whole.{Whole, form_at}
 use Rattle.tdb_world.proofs.all_openers.AllOpeners.turn.Goals as goal
 
 -- what holds of every value holds of an answer that is Ok
@@ -78,3 +82,20 @@ returns-then-is_starting-clause-no_sync g c state S L =
 
 pub returns-clause-no_sync : goal.returns-clause-no_sync
 returns-clause-no_sync g c state S L = c.other_turn.ensures.no_sync state S L.calm
+
+-- the one aside isn't among the others
+not_among : (w : Whole) (who : ℕ) (h : HolderState) → w.aside ≡ Some h → who ≡ h.owner → IsAmong w who → ⊥
+not_among w who h there mine (among_all nobody) = cc (sym nobody ∙ there)
+not_among w who h there mine (among_others other is differs) = differs (mine ∙ ap (λ (z : HolderState). z.owner) (some_is h other (sym there ∙ is)))
+  where
+    some_is : (x y : HolderState) → Some x ≡ Some y → x ≡ y
+    some_is x y e = cc
+
+pub returns-then-is_aside-clause-waits : goal.returns-then-is_aside-clause-waits
+returns-then-is_aside-clause-waits g c =
+    let h = c.is_aside.ensures.yes c.if-is_aside.true in
+    if_any c.aside_turn.result _ (λ turn begun among other there some. absurd (not_among c.args.self.now c.args.who h.0 h.1 h.2 among))
+
+pub returns-clause-waits : goal.returns-clause-waits
+returns-clause-waits g c =
+    if_any c.other_turn.result _ (λ turn begun among other there some. absurd (false≢true (sym (sym c.is_starting.ensures ∙ c.if-is_starting.false) ∙ begun)))
