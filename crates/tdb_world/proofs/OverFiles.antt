@@ -1,5 +1,5 @@
 -- The calls of a world that has its disk, by those of its openers.
-use Rattle.std.specs.Prelude.{ℕ, ◌≡◌, ◌≤◌, ◌<◌, ◌+◌, ◌⊎◌, Bool, false, IsTrue, Result, Ok, Err, IfOk, IfErr, OnOk, OnErr, length, if◌then◌else◌}
+use Rattle.std.specs.Prelude.{ℕ, ◌≡◌, ◌≢◌, ◌≤◌, ◌<◌, ◌+◌, ◌⊎◌, Bool, false, IsTrue, Result, Ok, Err, IfOk, IfErr, OnOk, OnErr, length, if◌then◌else◌}
 use Rattle.std.proofs.Common.{ap, inl, inr, refl, subst}
 use Rattle.tdb_disk.specs.Count.{HasCause, RoseBy}
 use Rattle.tdb_disk.specs.History.{History, seen}
@@ -118,19 +118,21 @@ pub was_undone : {E : Type 0} (tells : Bool) (old new : OverFile) (r : Result Un
     → undone.bytes ≡ (if is_open (form_at old.world) (seen old.history) then lengths (entries (form_at old.world) (seen old.history)) else 0))
     → OnOk r (IsTrue tells → (state : State) → IsStateOf old.world old.history state → IsSafe (form_at old.world) new.history)
     → OnOk r (IsTrue tells → (state : State) → IsStateOf old.world old.history state → RoseBy (1 + recovery_syncs (form_at old.world) (seen old.history)) old.syncs new.syncs)
+    → IfOk r (λ undone. undone.bytes ≢ 0 → RoseBy 4 old.syncs new.syncs ⊎ RoseBy 7 old.syncs new.syncs)
     → OnOk r (new.world ≡ record (old.world) { stale = false })
     → IfOk r (λ undone. undone.to ≡ new.size) → OnOk r (new.size ≤ old.size)
     → IfOk r (λ undone. WasUndone tells old new undone)
-was_undone tells old new (Ok undone) leads bytes safe syncs world length shorter = record {
+was_undone tells old new (Ok undone) leads bytes safe syncs made world length shorter = record {
   leads = leads;
   bytes = bytes;
   safe = safe;
   syncs = syncs;
+  made = made;
   world = world;
   length = length;
   shorter = shorter;
 }
-was_undone tells old new (Err e) leads bytes safe syncs world length shorter = tt
+was_undone tells old new (Err e) leads bytes safe syncs made world length shorter = tt
 
 -- a gift leaves the header and the options, also where there was no memory
 pub given_form : (old new : Whole) (r : Result OpenerStanding RunFault) → UnlessIo r (new.openers.header ≡ old.openers.header) → UnlessIo r (new.openers.options ≡ old.openers.options)

@@ -1,5 +1,5 @@
 //! The gate that an opener left open by dying.
-ghost use Rattle.std.specs.Prelude.{◌≡◌, ◌≤◌, ◌<◌, ◌+◌, ◌^◌, ◌⊎◌, ℕ, IsTrue, IfOk, OnOk, true, false, if◌then◌else◌};
+ghost use Rattle.std.specs.Prelude.{◌≡◌, ◌≢◌, ◌≤◌, ◌<◌, ◌+◌, ◌^◌, ◌⊎◌, ℕ, IsTrue, IfOk, OnOk, true, false, if◌then◌else◌};
 ghost use Rattle.tdb_disk.specs.Count.{HasCause, RoseBy};
 ghost use Rattle.tdb_disk.specs.History.{seen};
 ghost use Rattle.tdb_disk.specs.Stop.{LeavesOnly, Quiet};
@@ -42,6 +42,7 @@ fn put_back<D: Disk>(d: &mut D, header: &Header, len: u64) -> Result<u64, Io>
     ensures restored { OnOk result (IsTrue D.tells → let a = seen (D.history d.old) in form_of a ≡ form_in header.now → Opens a → seen (D.history d.new) ≡ restored (form_in header.now) a) }
     ensures bytes { IfOk result (λ bytes. IsTrue D.tells → let f = form_in header.now in let a = seen (D.history d.old) in form_of a ≡ f → Opens a → bytes ≡ (if is_open f a then lengths (entries f a) else 0)) }
     ensures syncs { OnOk result (IsTrue D.tells → let f = form_in header.now in let a = seen (D.history d.old) in form_of a ≡ f → Opens a → RoseBy (recovery_syncs f a) (D.syncs d.old) (D.syncs d.new)) }
+    ensures made { IfOk result (λ bytes. bytes ≢ 0 → RoseBy 3 (D.syncs d.old) (D.syncs d.new) ⊎ RoseBy 6 (D.syncs d.old) (D.syncs d.new)) }
     ensures cause { HasCause (D.faults d.old) (D.faults d.new) result }
 {
     if len < SHORTEST {
@@ -79,6 +80,7 @@ fn undo<D: Disk>(d: &mut D, header: &Header) -> Result<Undone, Io>
     ensures restored { OnOk result (IsTrue D.tells → let a = seen (D.history d.old) in form_of a ≡ form_in header.now → Opens a → seen (D.history d.new) ≡ restored (form_in header.now) a) }
     ensures bytes { IfOk result (λ undone. IsTrue D.tells → let f = form_in header.now in let a = seen (D.history d.old) in form_of a ≡ f → Opens a → undone.bytes ≡ (if is_open f a then lengths (entries f a) else 0)) }
     ensures syncs { OnOk result (IsTrue D.tells → let f = form_in header.now in let a = seen (D.history d.old) in form_of a ≡ f → Opens a → RoseBy (1 + recovery_syncs f a) (D.syncs d.old) (D.syncs d.new)) }
+    ensures made { IfOk result (λ undone. undone.bytes ≢ 0 → RoseBy 4 (D.syncs d.old) (D.syncs d.new) ⊎ RoseBy 7 (D.syncs d.old) (D.syncs d.new)) }
     ensures length { IfOk result (λ undone. undone.to ≡ D.size d.new) }
     ensures shorter { OnOk result (D.size d.new ≤ D.size d.old) }
     ensures cause { HasCause (D.faults d.old) (D.faults d.new) result }
@@ -101,7 +103,8 @@ impl AllOpeners {
     /// Undoes the gate that an opener left open: syncs, and puts the old bytes back. No turn is taken in a stale world
     /// before that. After `Io` no turn may be taken any more.
     ///
-    /// Where the file doesn't tell its bytes, an undo area that is none puts back nothing.
+    /// Where the file doesn't tell its bytes, an undo area that is none puts back nothing. Bytes are told only where an
+    /// undo was made.
     ///
     /// Cost: a read and a write of each entry, and at most 7 syncs. It takes no memory.
     pub(crate) fn undo_stale<D: Disk>(&mut self, d: &mut D) -> Result<Undone, Io>
@@ -119,6 +122,7 @@ impl AllOpeners {
         ensures world { OnOk result (self.new ≡ record self.old { stale = false }) }
         ensures syncs { OnOk result (IsTrue D.tells → (state : State) → IsStateOf self.old (D.history d.old) state
             → RoseBy (1 + recovery_syncs (form_at self.old) (seen (D.history d.old))) (D.syncs d.old) (D.syncs d.new)) }
+        ensures made { IfOk result (λ undone. undone.bytes ≢ 0 → RoseBy 4 (D.syncs d.old) (D.syncs d.new) ⊎ RoseBy 7 (D.syncs d.old) (D.syncs d.new)) }
         ensures cause { HasCause (D.faults d.old) (D.faults d.new) result }
     {
         let header = *self.openers.header();

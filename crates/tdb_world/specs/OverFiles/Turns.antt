@@ -1,5 +1,5 @@
 -- A turn, and the undo of a gate that a dead opener left open.
-use Rattle.std.specs.Prelude.{ℕ, ◌≡◌, ◌≢◌, ◌≤◌, ◌+◌, Bool, IsTrue, Some, Result, OnOk, OnErr, false, if◌then◌else◌}
+use Rattle.std.specs.Prelude.{ℕ, ◌≡◌, ◌≢◌, ◌≤◌, ◌+◌, ◌⊎◌, Bool, IsTrue, Some, Result, OnOk, OnErr, false, if◌then◌else◌}
 use Rattle.tdb_disk.specs.Count.{Rose, RoseBy}
 use Rattle.tdb_disk.specs.History.{seen}
 use Rattle.tdb_disk.specs.Stop.{LeavesOnly}
@@ -67,13 +67,15 @@ pub record CountsFaults {V F : Type 0} (tells : Bool) (old new : OverFile) (answ
   pub done : OnOk answer (new.faults ≡ old.faults)
   pub failed : IsTrue tells → (state : State) → HasState old state → OnErr answer (Rose old.faults new.faults)
 
--- The gate that a dead opener left open was undone: so many bytes were put back, and the file has this length now.
+-- The gate that a dead opener left open was undone: so many bytes were put back, and the file has this length now. Bytes
+-- are told only where an undo was made, with its syncs.
 pub record WasUndone (tells : Bool) (old new : OverFile) (undone : Undone) : Type 0 where
   pub leads : IsTrue tells → UndoLeads old.world new.world old.history new.history
   pub bytes : IsTrue tells → (state : State) → HasState old state
       → undone.bytes ≡ (if is_open (form_at old.world) (seen old.history) then lengths (entries (form_at old.world) (seen old.history)) else 0)
   pub safe : IsTrue tells → (state : State) → HasState old state → IsSafe (form_at old.world) new.history
   pub syncs : IsTrue tells → (state : State) → HasState old state → RoseBy (1 + recovery_syncs (form_at old.world) (seen old.history)) old.syncs new.syncs
+  pub made : undone.bytes ≢ 0 → RoseBy 4 old.syncs new.syncs ⊎ RoseBy 7 old.syncs new.syncs
   pub world : new.world ≡ record (old.world) { stale = false }
   pub length : undone.to ≡ new.size
   pub shorter : new.size ≤ old.size

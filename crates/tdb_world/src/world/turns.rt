@@ -50,7 +50,8 @@ impl<D: Disk> World<D> {
     /// Undoes the gate that an opener left open: syncs, and puts the old bytes back. No turn is taken in a stale world
     /// before that. After `Io` the world is spent.
     ///
-    /// Where the file doesn't tell its bytes, an undo area that is none puts back nothing.
+    /// Where the file doesn't tell its bytes, an undo area that is none puts back nothing. Bytes are told only where an
+    /// undo was made.
     ///
     /// Cost: a read and a write of each entry, and at most 7 syncs. It takes no memory.
     pub fn undo_stale(&mut self) -> Result<Undone, Io>

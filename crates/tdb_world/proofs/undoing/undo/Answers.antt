@@ -1,5 +1,5 @@
 -- The sync leaves what is seen of the file, and no undo makes it longer.
-use Rattle.std.proofs.Common.{◌≡◌, ℕ, ◌+◌, ◌⊎◌, List, if◌then◌else◌, IsTrue, sym, ◌∙◌, ap, subst}
+use Rattle.std.proofs.Common.{◌≡◌, ℕ, ◌+◌, ◌⊎◌, List, if◌then◌else◌, IsTrue, inl, inr, sym, ◌∙◌, ap, subst}
 use Rattle.tdb_disk.specs.Count.{RoseBy}
 use Rattle.tdb_disk.specs.History.{History, seen}
 use Rattle.tdb_disk.specs.Stop.{LeavesOnly, Quiet}
@@ -105,3 +105,13 @@ returns-clause-stops g c told safe form opens again =
 pub returns-clause-quiet : goal.returns-clause-quiet
 returns-clause-quiet g c told form opens =
     let at = goal.at.returns-clause-quiet g c in subst Quiet (sym (uncut g at.After-cut_back told form opens)) (c.in_ok-bytes.ensures.quiet told (quiet g at.After-put_back told))
+
+-- bytes are told only where an undo was made
+pub returns-clause-made : goal.returns-clause-made
+returns-clause-made g c some =
+    subst (λ was. RoseBy 4 was (g.D.Disk.syncs c.cut_back.new.d) ⊎ RoseBy 7 was (g.D.Disk.syncs c.cut_back.new.d)) c.len.ensures.syncs
+    (subst (λ now. RoseBy 4 (g.D.Disk.syncs c.len.new.self) now ⊎ RoseBy 7 (g.D.Disk.syncs c.len.new.self) now) (sym c.cut_back.ensures.syncs)
+    (elim (c.in_ok-bytes.ensures.made some) [
+      | inl few ↦ inl (rose_then 1 3 (g.D.Disk.syncs c.len.new.self) (g.D.Disk.syncs c.sync.new.self) (g.D.Disk.syncs c.put_back.new.d) c.in_ok-sync.ensures.syncs few)
+      | inr more ↦ inr (rose_then 1 6 (g.D.Disk.syncs c.len.new.self) (g.D.Disk.syncs c.sync.new.self) (g.D.Disk.syncs c.put_back.new.d) c.in_ok-sync.ensures.syncs more)
+    ]))
