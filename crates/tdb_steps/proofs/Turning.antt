@@ -410,10 +410,10 @@ module _ (f : Form) (a m : List ℕ) (command : Plain) (chain : ℕ) (seqnum : B
 -- the turn of a command failed, whose stage was taken out for it
 pub act_broke : (f : Form) (a b : List ℕ) (command : Plain) (chain : ℕ) (seqnum : Bool) (n : ℕ) (stage taken : Stage) (was : Option (List ℕ)) (d : Doing) (others : List HandPair)
     → d ≡ record { command = command; chain = chain; seqnum = seqnum; stage = stage; whole = was } → taken ≡ stage → CommandStops f a b command taken
-    → AcceptWith f a (hands_in d.stage ++ others) → DoingKnows f a d → MachineStopped f a b d n others
+    → MayBeOut d.stage others → AcceptWith f a (hands_in d.stage ++ others) → DoingKnows f a d → MachineStopped f a b d n others
 act_broke f a b command chain seqnum n stage taken was d others before out stops =
-    subst (λ x. AcceptWith f a (hands_in x.stage ++ others) → DoingKnows f a x → MachineStopped f a b x n others) (sym before)
-    (λ A K. in_call (subst (CommandStops f a b command) out stops others A K.found))
+    subst (λ x. MayBeOut x.stage others → AcceptWith f a (hands_in x.stage ++ others) → DoingKnows f a x → MachineStopped f a b x n others) (sym before)
+    (λ may A K. in_call (subst (CommandStops f a b command) out stops others may A K.found))
 
 -- the stages from which a turn takes a lock
 pub data LockStage (stage : Stage) : Type 0 where

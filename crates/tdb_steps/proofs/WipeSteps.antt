@@ -77,5 +77,5 @@ module _ (f : Form) (a m b : List ℕ) (p : AreaBounds) (A : AcceptWith f a []) 
   around_stopped (inl same) = in_stretches (record {
     free = same ∙ word_zero f.order m free_head (λ i low high. H.zeros i low (omega (arith, high)));
     chains = λ k low. word_zero f.order b (chain_head k) (λ i from to. zeros i (omega (arith, from)) (omega (arith, to, low)));
-  })
+  }) around_stays
   around_stopped (inr F) = at_end (around_wiped F)

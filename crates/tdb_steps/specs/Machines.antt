@@ -26,7 +26,7 @@ use Rattle.tdb_steps.specs.declared.stage.Next.{Next}
 use Rattle.tdb_steps.specs.Turns.{number_of, Makes, TurnStopped, AppendMakes, WipeMakes, StoresRightly, AppendsRightly, DeletesRightly, WipesRightly, LooksRightly}
 use Rattle.tdb_steps.specs.Asked.{joined}
 use Rattle.tdb_steps.specs.Wiped.{WipeStopped}
-use Rattle.tdb_steps.specs.Stages.{hands_in, is_done, is_changed, IsIdle, Knows, IsTooShort, IsJoined, OfLook, OfStore, OfDelete, OfWipe}
+use Rattle.tdb_steps.specs.Stages.{hands_in, is_done, is_changed, MayBeOut, IsIdle, Knows, IsTooShort, IsJoined, OfLook, OfStore, OfDelete, OfWipe}
 use Rattle.tdb_steps.specs.PlainCommands.{IsKeyed, key_of, asked_of, command_of, IsMapOf}
 use Rattle.tdb_steps.specs.Order.{IsAfter}
 use Rattle.tdb_steps.specs.Walks.{StandInChains, SparesStood, WalksKept}
@@ -106,16 +106,16 @@ CommandMakes f a b (Append key value) was now old next = AppendMakes f a b key v
 CommandMakes f a b Wipe was now old next = WipeMakes f a b old next
 CommandMakes f a b command was now old next = Makes f a b (key_of command) (asked_of command) old next
 
--- What a turn of a command from a stage leaves where it fails: a wipe what one leaves that found no hand out, and any
--- other command what a turn on its key leaves.
+-- What a turn of a command from a stage leaves where it fails: a wipe what one leaves, and any other command what a turn
+-- on its key leaves.
 abbrev pub CommandStopped : Form → List ℕ → List ℕ → Plain → Stage → Type 0
-CommandStopped f a b Wipe stage = AcceptWith f a [] → WipeStopped f a b
+CommandStopped f a b Wipe stage = WipeStopped f a b
 CommandStopped f a b command stage = TurnStopped f a b (key_of command) (hands_in stage)
 
--- so it is for whatever other hands are out
+-- so it is for whatever other hands may be out
 abbrev pub CommandStops : Form → List ℕ → List ℕ → Plain → Stage → Type 0
 CommandStops f a b command stage =
-    (others : List HandPair) → AcceptWith f a (hands_in stage ++ others) → Knows f a (key_of command) (asked_of command) stage → CommandStopped f a b command stage
+    (others : List HandPair) → MayBeOut stage others → AcceptWith f a (hands_in stage ++ others) → Knows f a (key_of command) (asked_of command) stage → CommandStopped f a b command stage
 
 -- How a turn of a command goes on: a store or an append updates in place exactly where the value fits, and takes a
 -- record as the free list gives it, or replies Full exactly where it has none that is long enough and the file can't

@@ -67,10 +67,11 @@ pub record HeadsEmpty (f : Form) (b : List ℕ) : Type 0 where
   pub free : word f.order b free_head ≡ 0
   pub chains : (k : ℕ) → k < f.chains → word f.order b (chain_head k) ≡ 0
 
--- A wipe of image a failed and left image b: at most heads of lists changed, or all lists are empty, or b is wiped.
+-- A wipe of image a failed and left image b: at most heads of lists changed; or all lists are empty, and the header and
+-- the undo area stay; or b is wiped.
 pub data WipeStopped (f : Form) (a b : List ℕ) : Type 0 where
   in_heads : Torn free_head (4 * (f.chains + 1)) a b → WipeStopped f a b
-  in_stretches : HeadsEmpty f b → WipeStopped f a b
+  in_stretches : HeadsEmpty f b → FrontSame f a b → WipeStopped f a b
   at_end : Wiped f a b → WipeStopped f a b
 
 -- Where the undo area of a file of this form and length can stand: from an offset up to another, in whole words. Where

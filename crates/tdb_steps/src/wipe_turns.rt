@@ -1,11 +1,12 @@
 // The turns of a wipe.
 
-ghost use Rattle.std.specs.Prelude.{◌≡◌, ◌≤◌, ◌<◌, ◌^◌, [], IsTrue, IfOk, OnErr};
+ghost use Rattle.std.specs.Prelude.{◌≡◌, ◌≤◌, ◌<◌, ◌^◌, ◌++◌, [], List, IsTrue, IfOk, OnErr};
 ghost use Rattle.tdb_disk.specs.Count.{HasCause};
 ghost use Rattle.tdb_space.specs.Frame.{Looked, Wrote};
 ghost use Rattle.tdb_space.specs.Accepted.{AcceptWith};
+ghost use Rattle.tdb_space.specs.Extents.{HandPair};
 ghost use Rattle.tdb_steps.specs.Wiped.{WipeStopped};
-ghost use Rattle.tdb_steps.specs.Stages.{OfWipe, Leads, IsIdle, CanCount};
+ghost use Rattle.tdb_steps.specs.Stages.{hands_in, MayBeOut, OfWipe, Leads, IsIdle, CanCount};
 ghost use Rattle.tdb_steps.specs.Turns.{WipeMakes, WipesRightly};
 ghost use Rattle.tdb_steps.specs.Order.{WipeOrder};
 ghost use Rattle.tdb_steps.specs.declared.stage.Stage.TheVariants as Stage;
@@ -26,7 +27,8 @@ pub fn wipe_turn<S: Space>(stage: Stage, s: &mut S) -> Result<Next, Io>
     requires stage { OfWipe stage (S.spare s.old) }
     ensures made { IfOk result (λ next. IsTrue S.tells → S.size s.old < 2 ^ 32 → WipeMakes (S.form s.old) (S.image s.old) (S.image s.new) stage next) }
     ensures rightly { IfOk result (λ next. IsTrue S.tells → S.size s.old < 2 ^ 32 → WipesRightly (S.form s.old) (S.image s.old) (S.image s.new) stage next) }
-    ensures stopped { OnErr result (IsTrue S.tells → AcceptWith (S.form s.old) (S.image s.old) [] → WipeStopped (S.form s.old) (S.image s.old) (S.image s.new)) }
+    ensures stopped { OnErr result (IsTrue S.tells → (others : List HandPair) → MayBeOut stage others → AcceptWith (S.form s.old) (S.image s.old) (hands_in stage ++ others)
+        → WipeStopped (S.form s.old) (S.image s.old) (S.image s.new)) }
     ensures order { IfOk result (WipeOrder stage) }
     ensures leads { IfOk result (Leads (λ then. OfWipe then (S.spare s.new))) }
     ensures room { IfOk result (CanCount (S.spare s.new)) }

@@ -11,7 +11,7 @@ use Rattle.tdb_steps.specs.declared.plain.Plain.TheVariants as Plain
 use Rattle.tdb_space.specs.Extents.{HandPair}
 use Rattle.tdb_space.specs.Accepted.{AcceptWith}
 use Rattle.tdb_space.proofs.Results.{on_err}
-use Rattle.tdb_steps.specs.Stages.{hands_in, Knows}
+use Rattle.tdb_steps.specs.Stages.{hands_in, Knows, MayBeOut}
 use Rattle.tdb_steps.proofs.Stopped.{stopped_nothing}
 use Rattle.tdb_steps.proofs.acting.act.Goals as goal
 
@@ -134,7 +134,7 @@ returns-in-Fetch-clause-stopped g c =
     let b = g.S.Space.image c.fetch_turn.new.s in
     let stage = c.args.stage in
     subst (λ x. OnErr c.fetch_turn.result (IsTrue g.S.Space.tells → g.S.Space.size c.args.s.now < 2 ^ 32 → CommandStops f a b x stage)) (sym c.in-Fetch.is)
-    (on_err c.fetch_turn.result (λ told small others A known. stopped_nothing f a b c.in-Fetch.key (hands_in stage) (hands_in stage ++ others) A c.fetch_turn.ensures.looked.image))
+    (on_err c.fetch_turn.result (λ told small others may A known. stopped_nothing f a b c.in-Fetch.key (hands_in stage) (hands_in stage ++ others) A c.fetch_turn.ensures.looked.image))
 
 pub returns-in-Has-clause-stopped : goal.returns-in-Has-clause-stopped
 returns-in-Has-clause-stopped g c =
@@ -143,7 +143,7 @@ returns-in-Has-clause-stopped g c =
     let b = g.S.Space.image c.has_turn.new.s in
     let stage = c.args.stage in
     subst (λ x. OnErr c.has_turn.result (IsTrue g.S.Space.tells → g.S.Space.size c.args.s.now < 2 ^ 32 → CommandStops f a b x stage)) (sym c.in-Has.is)
-    (on_err c.has_turn.result (λ told small others A known. stopped_nothing f a b c.in-Has.key (hands_in stage) (hands_in stage ++ others) A c.has_turn.ensures.looked.image))
+    (on_err c.has_turn.result (λ told small others may A known. stopped_nothing f a b c.in-Has.key (hands_in stage) (hands_in stage ++ others) A c.has_turn.ensures.looked.image))
 
 pub returns-in-Store-clause-stopped : goal.returns-in-Store-clause-stopped
 returns-in-Store-clause-stopped g c =
@@ -152,8 +152,8 @@ returns-in-Store-clause-stopped g c =
     let b = g.S.Space.image c.store_turn.new.s in
     let stage = c.args.stage in
     subst (λ x. OnErr c.store_turn.result (IsTrue g.S.Space.tells → g.S.Space.size c.args.s.now < 2 ^ 32 → CommandStops f a b x stage)) (sym c.in-Store.is)
-    (subst (λ k. OnErr c.store_turn.result (IsTrue g.S.Space.tells → g.S.Space.size c.args.s.now < 2 ^ 32 → (others : List HandPair) → AcceptWith f a (hands_in stage ++ others) → Knows f a k (stores c.in-Store.flag c.in-Store.value) stage → TurnStopped f a b k (hands_in stage))) c.as_slice-in-Store.ensures
-    (on_err_weaker c.store_turn.result (λ stopped told small others A known. stopped told small (stores c.in-Store.flag c.in-Store.value) others A known) c.store_turn.ensures.stopped))
+    (subst (λ k. OnErr c.store_turn.result (IsTrue g.S.Space.tells → g.S.Space.size c.args.s.now < 2 ^ 32 → (others : List HandPair) → MayBeOut stage others → AcceptWith f a (hands_in stage ++ others) → Knows f a k (stores c.in-Store.flag c.in-Store.value) stage → TurnStopped f a b k (hands_in stage))) c.as_slice-in-Store.ensures
+    (on_err_weaker c.store_turn.result (λ stopped told small others may A known. stopped told small (stores c.in-Store.flag c.in-Store.value) others A known) c.store_turn.ensures.stopped))
 
 pub returns-in-Append-clause-stopped : goal.returns-in-Append-clause-stopped
 returns-in-Append-clause-stopped g c =
@@ -162,8 +162,8 @@ returns-in-Append-clause-stopped g c =
     let b = g.S.Space.image c.append_turn.new.s in
     let stage = c.args.stage in
     subst (λ x. OnErr c.append_turn.result (IsTrue g.S.Space.tells → g.S.Space.size c.args.s.now < 2 ^ 32 → CommandStops f a b x stage)) (sym c.in-Append.is)
-    (subst (λ k. OnErr c.append_turn.result (IsTrue g.S.Space.tells → g.S.Space.size c.args.s.now < 2 ^ 32 → (others : List HandPair) → AcceptWith f a (hands_in stage ++ others) → Knows f a k (appends c.in-Append.value) stage → TurnStopped f a b k (hands_in stage))) c.as_slice-in-Append.ensures
-    (on_err_weaker c.append_turn.result (λ stopped told small others A known. stopped told small (appends c.in-Append.value) others A known) c.append_turn.ensures.stopped))
+    (subst (λ k. OnErr c.append_turn.result (IsTrue g.S.Space.tells → g.S.Space.size c.args.s.now < 2 ^ 32 → (others : List HandPair) → MayBeOut stage others → AcceptWith f a (hands_in stage ++ others) → Knows f a k (appends c.in-Append.value) stage → TurnStopped f a b k (hands_in stage))) c.as_slice-in-Append.ensures
+    (on_err_weaker c.append_turn.result (λ stopped told small others may A known. stopped told small (appends c.in-Append.value) others A known) c.append_turn.ensures.stopped))
 
 pub returns-in-Delete-clause-stopped : goal.returns-in-Delete-clause-stopped
 returns-in-Delete-clause-stopped g c =
@@ -172,8 +172,8 @@ returns-in-Delete-clause-stopped g c =
     let b = g.S.Space.image c.delete_turn.new.s in
     let stage = c.args.stage in
     subst (λ x. OnErr c.delete_turn.result (IsTrue g.S.Space.tells → g.S.Space.size c.args.s.now < 2 ^ 32 → CommandStops f a b x stage)) (sym c.in-Delete.is)
-    (subst (λ k. OnErr c.delete_turn.result (IsTrue g.S.Space.tells → g.S.Space.size c.args.s.now < 2 ^ 32 → (others : List HandPair) → AcceptWith f a (hands_in stage ++ others) → Knows f a k deletes stage → TurnStopped f a b k (hands_in stage))) c.as_slice-in-Delete.ensures
-    (on_err_weaker c.delete_turn.result (λ stopped told small others A known. stopped told small deletes others A known) c.delete_turn.ensures.stopped))
+    (subst (λ k. OnErr c.delete_turn.result (IsTrue g.S.Space.tells → g.S.Space.size c.args.s.now < 2 ^ 32 → (others : List HandPair) → MayBeOut stage others → AcceptWith f a (hands_in stage ++ others) → Knows f a k deletes stage → TurnStopped f a b k (hands_in stage))) c.as_slice-in-Delete.ensures
+    (on_err_weaker c.delete_turn.result (λ stopped told small others may A known. stopped told small deletes others A known) c.delete_turn.ensures.stopped))
 
 pub returns-in-Wipe-clause-stopped : goal.returns-in-Wipe-clause-stopped
 returns-in-Wipe-clause-stopped g c =
@@ -182,7 +182,7 @@ returns-in-Wipe-clause-stopped g c =
     let b = g.S.Space.image c.wipe_turn.new.s in
     let stage = c.args.stage in
     subst (λ x. OnErr c.wipe_turn.result (IsTrue g.S.Space.tells → g.S.Space.size c.args.s.now < 2 ^ 32 → CommandStops f a b x stage)) (sym c.in-Wipe.is)
-    (on_err_weaker c.wipe_turn.result (λ stopped told small others A known. stopped told) c.wipe_turn.ensures.stopped)
+    (on_err_weaker c.wipe_turn.result (λ stopped told small others may A known. stopped told others may A) c.wipe_turn.ensures.stopped)
 
 -- and it reads what they do
 pub returns-in-Fetch-clause-reads : goal.returns-in-Fetch-clause-reads

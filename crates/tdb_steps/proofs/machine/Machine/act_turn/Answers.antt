@@ -76,7 +76,7 @@ returns-in_ok-count-in-Done-clause-row g c n is =
 pub returns-in_err-next-clause-stopped : goal.returns-in_err-next-clause-stopped
 returns-in_err-next-clause-stopped g c = on_err c.from_residual.result (λ told small n others is may A K.
     act_broke (g.S.Space.form c.args.s.now) (g.S.Space.image c.args.s.now) (g.S.Space.image c.act.new.s) c.self.inside.command c.self.inside.chain c.self.inside.seqnum n c.self.inside.stage c.replace-stage.result c.self.inside.whole c.args.self.now others
-    (sym c.self.view_is) c.replace-stage.ensures.value (c.in_err-next.ensures.stopped told small) A K)
+    (sym c.self.view_is) c.replace-stage.ensures.value (c.in_err-next.ensures.stopped told small) may A K)
 
 -- or the number couldn't be raised
 pub returns-in_err-count-in-Done-clause-stopped : goal.returns-in_err-count-in-Done-clause-stopped
