@@ -6,6 +6,8 @@ use Rattle.tdb_locks.specs.declared.kind.Kind.{Kind}
 use Rattle.tdb_locks.specs.declared.kind.Kind.TheVariants.{Write}
 use Rattle.tdb_law.specs.Held.{all_held, covers}
 use Rattle.tdb_law.specs.Rows.{lock_all}
+use Rattle.tdb_law.specs.Commands.{Command}
+use Rattle.tdb_law.specs.Openers.{Task}
 use Rattle.tdb_law.specs.World.{State}
 use Rattle.tdb_law.proofs.Tests.{never_true}
 use Rattle.tdb_law.proofs.Walking.{put_here, put_else}
@@ -21,7 +23,7 @@ use Rattle.tdb_txn_owner.specs.Stages.{stage_records, stage_task}
 use Rattle.tdb_txn_owner.specs.Wanting.{records_at}
 use Rattle.tdb_txn_owner.proofs.RecordsHeld.{records_law}
 use Rattle.tdb_openers.specs.Openers.{all_of, law_task, own_at, spot_at, spot_by, task_at}
-use Rattle.tdb_openers.specs.Worlds.{World, state_in, Stands, IsBusy, IsFree, IsNumber}
+use Rattle.tdb_openers.specs.Worlds.{World, law_of_task, state_in, Stands, IsBusy, IsFree, IsNumber}
 use Rattle.tdb_openers.specs.declared.job.Task.{Task as JobTask}
 use Rattle.tdb_openers.specs.declared.opener.Opener.{Opener}
 use Rattle.tdb_openers.proofs.ExplicitLocks.Aside.{held_before}
@@ -32,7 +34,7 @@ use Rattle.tdb_openers.proofs.Joining.Putting.{by_number}
 use Rattle.tdb_openers.proofs.Joining.Stood.{injected}
 use Rattle.tdb_world.specs.States.{IsAside, IsStateOf, SideIs, once}
 use Rattle.tdb_world.specs.States.IsStateOf.{of_whole, of_stale}
-use Rattle.tdb_world.specs.Steps.{HasCommand, HasNoCommand, IsAmong}
+use Rattle.tdb_world.specs.Steps.{HasCommand, HasNoCommand, HasThis, IsAmong}
 use Rattle.tdb_world.specs.Steps.HasCommand.{by_aside, by_start, by_job}
 use Rattle.tdb_world.specs.Steps.HasNoCommand.{idle_aside, idle_among}
 use Rattle.tdb_world.specs.Steps.IsAmong.{among_all, among_others}
@@ -197,6 +199,17 @@ pub busy_among : (w : Whole) (who : ℕ) → IsAmong w who → is_starting w.sta
 busy_among w who among none (by_aside h t e is busy) = absurd (never_both w who h e is among)
 busy_among w who among none (by_start begun other) = absurd (never_true (sym none ∙ begun))
 busy_among w who among none (by_job x t B still other) = (x, t, B)
+
+-- what is told of the one aside, and of another, is the command that it has
+pub aside_has : (w : Whole) (who : ℕ) (c : Command) (h : HolderState) → w.aside ≡ Some h → who ≡ h.owner → ((t : Task) → stage_task h.stage ≡ Some t → c ≡ t.command) → HasCommand w who → HasThis w who c
+aside_has w who c h e is told (by_aside g t d owner busy) = (by_aside g t d owner busy, told t (subst (λ (z : HolderState). stage_task z.stage ≡ Some t) (same_holder w h g e d) busy))
+aside_has w who c h e is told (by_start begun among) = absurd (never_both w who h e is among)
+aside_has w who c h e is told (by_job x t B none among) = absurd (never_both w who h e is among)
+
+pub among_has : (w : Whole) (who : ℕ) (c : Command) → IsAmong w who → is_starting w.starts (law_opener who) ≡ false → ((x : Opener) (t : JobTask) → IsBusy w.openers who x t → c ≡ (law_of_task t).command) → HasCommand w who → HasThis w who c
+among_has w who c among none told (by_aside h t e is busy) = absurd (never_both w who h e is among)
+among_has w who c among none told (by_start begun other) = absurd (never_true (sym none ∙ begun))
+among_has w who c among none told (by_job x t B still other) = (by_job x t B still other, told x t B)
 
 pub free_among : (w : Whole) (who : ℕ) → IsAmong w who → HasNoCommand w who → (x : Opener) × IsFree w.openers who x × (is_starting w.starts (law_opener who) ≡ false)
 free_among w who among (idle_aside h e is idle) = absurd (never_both w who h e is among)

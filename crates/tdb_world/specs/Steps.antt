@@ -4,6 +4,7 @@ use Rattle.tdb_disk.specs.History.{History}
 use Rattle.tdb_law.specs.Commands.{Command, Turn}
 use Rattle.tdb_law.specs.Commands.Turn.{Blocked}
 use Rattle.tdb_law.specs.Events.{Joins, Dies, Given, Undoes}
+use Rattle.tdb_law.specs.OneAside.Starts.{new_start}
 use Rattle.tdb_law.specs.Openers.{Task}
 use Rattle.tdb_law.specs.Turned.{Turned}
 use Rattle.tdb_law.specs.World.{State}
@@ -12,7 +13,7 @@ use Rattle.tdb_txn_owner.specs.Holders.{stage_depth, HolderState}
 use Rattle.tdb_txn_owner.specs.Stages.{stage_task, MayBeGiven}
 use Rattle.tdb_commands.specs.InLaw.{law_opener}
 use Rattle.tdb_commands.specs.declared.command.Command.{Command as Asked}
-use Rattle.tdb_openers.specs.Worlds.{IsFree, IsBusy}
+use Rattle.tdb_openers.specs.Worlds.{law_of_task, IsFree, IsBusy}
 use Rattle.tdb_openers.specs.declared.job.Task.{Task as JobTask}
 use Rattle.tdb_openers.specs.declared.opener.Opener.{Opener}
 use Rattle.tdb_world.specs.Whole.{Whole, form_at, is_starting}
@@ -28,6 +29,16 @@ pub data HasCommand (w : Whole) (who : ℕ) : Type 0 where
   by_aside : (h : HolderState) (t : Task) → w.aside ≡ Some h → who ≡ h.owner → stage_task h.stage ≡ Some t → HasCommand w who
   by_start : is_starting w.starts (law_opener who) ≡ true → IsAmong w who → HasCommand w who
   by_job : (x : Opener) (t : JobTask) → IsBusy w.openers who x t → is_starting w.starts (law_opener who) ≡ false → IsAmong w who → HasCommand w who
+
+-- the command that it has so
+abbrev pub command_had : {w : Whole} {who : ℕ} → HasCommand w who → Command
+command_had (by_aside h t e owner busy) = t.command
+command_had (by_start begun among) = new_start.command
+command_had (by_job x t busy none among) = (law_of_task t).command
+
+-- The opener has this command, and it isn't done.
+abbrev pub HasThis : Whole → ℕ → Command → Type 0
+HasThis w who c = (has : HasCommand w who) × (c ≡ command_had has)
 
 -- It is live, and has none.
 pub data HasNoCommand (w : Whole) (who : ℕ) : Type 0 where

@@ -7,7 +7,7 @@ ghost use Rattle.tdb_commands.specs.InLaw.{law_opener, law_command};
 ghost use Rattle.tdb_commands.specs.Short.{IsShortCommand};
 ghost use Rattle.tdb_world.specs.Whole.{is_starting, WorldFits};
 ghost use Rattle.tdb_world.specs.States.{IsStateOf};
-ghost use Rattle.tdb_world.specs.Steps.{GiftLeads, HasCommand, HasNoCommand, HasRoom, IsAmong};
+ghost use Rattle.tdb_world.specs.Steps.{GiftLeads, HasCommand, HasNoCommand, HasRoom, HasThis, IsAmong};
 ghost use Rattle.tdb_law.specs.OneAside.Sides.{Past, Side};
 ghost use Rattle.tdb_txn_owner.specs.Ends.{task_of};
 ghost use Rattle.tdb_txn_owner.specs.Holders.{is_idle, stage_depth, with_command, HolderState};
@@ -100,7 +100,8 @@ impl AllOpeners {
     pub(crate) fn told(&self, who: u32) -> Result<Command, AllocError>
         requires fits { (img : List ℕ) × (size : ℕ) × WorldFits self.now img size }
         requires busy { HasCommand self.now who }
-        ensures { IfOk result (λ command. (h : History) (state : State) (t : Task) → IsStateOf self.now h state → state.task (law_opener who) ≡ Some t → law_command command ≡ t.command) }
+        ensures told { IfOk result (λ command. (h : History) (state : State) (t : Task) → IsStateOf self.now h state → state.task (law_opener who) ≡ Some t → law_command command ≡ t.command) }
+        ensures has { IfOk result (λ command. HasThis self.now who (law_command command)) }
     {
         if let Some(holder) = self.holder(who) {
             return holder.told(self.openers.alloc());

@@ -35,7 +35,7 @@ answered tells w h size faults play line old new W A short (Ok v) told kept memo
   fits = W;
   quiet = refl;
   told = λ tell state is. (state, is, gives_answer (law_line line) refl refl (A h state is));
-  calls = λ tell state is. told_one _ _ _ _ w h (record { header = refl; options = refl }) (calls_nothing (answer_quiet state play line (A h state is), tt) refl (λ s S. (s, S))) (refl, refl);
+  calls = λ tell state is. told_one _ _ _ _ w h size (record { header = refl; options = refl }) short (calls_nothing play (answer_quiet state play line (A h state is), tt) refl (λ s S. (s, S, gives_answer (law_line line) refl refl (A h s S)))) (refl, refl, refl);
   rose = λ tell state is. tt;
 }
 answered tells w h size faults play line old new W A short (Err Memory) told kept memory = record {
@@ -48,7 +48,7 @@ answered tells w h size faults play line old new W A short (Err Memory) told kep
   fits = W;
   quiet = refl;
   told = λ tell state is. (state, is, begun_not refl refl);
-  calls = λ tell state is. told_none _ _ _ refl refl;
+  calls = λ tell state is. told_none _ _ _ refl refl refl;
   rose = λ tell state is. tt;
 }
 answered tells w h size faults play line old new W A short (Err Io) told kept memory = absurd (cc memory)
@@ -66,7 +66,7 @@ memory_led tells w h size faults old new Memory All Part Last memory W lines par
   fits = W;
   quiet = refl;
   told = λ told state is. (state, is, part state);
-  calls = λ told state is. told_none _ _ _ refl refl;
+  calls = λ told state is. told_none _ _ _ refl refl refl;
   rose = λ told state is. tt;
 }
 memory_led tells w h size faults old new Io All Part Last memory W lines part = absurd (cc memory)
@@ -84,7 +84,7 @@ line_led tells w v h size faults play line old new header options W gives quiet 
   fits = W;
   quiet = refl;
   told = λ told state is. gives h state is;
-  calls = λ told state is. told_one _ _ _ _ v h (record { header = header; options = options }) (calls_nothing (quiet h state is, tt) refl (λ s S. (let J = gives h s S in (J.0, J.1)))) (refl, refl);
+  calls = λ told state is. told_one _ _ _ _ v h size (record { header = header; options = options }) short (calls_nothing play (quiet h state is, tt) refl (gives h)) (refl, refl, refl);
   rose = λ told state is. tt;
 }
 
@@ -105,7 +105,7 @@ gift_led tells w v h size faults who c lines W (Ok u) G kept memory = record {
   fits = G.fits (seen h) size W;
   quiet = refl;
   told = λ told state is. (let J = G.given h state is in (J.0, J.1, (refl, J.2)));
-  calls = λ told state is. told_one _ _ _ _ v h (record { header = G.header; options = G.options }) (calls_nothing tt refl (λ s S. (let J = G.given h s S in (J.0, J.1)))) (refl, refl);
+  calls = λ told state is. told_one _ _ _ _ v h size (record { header = G.header; options = G.options }) refl (calls_nothing (LawPlay.Give (law_opener who) c) tt refl (λ s S. (let J = G.given h s S in (J.0, J.1, gives_command (law_opener who) c refl refl J.2)))) (refl, refl, refl);
   rose = λ told state is. tt;
 }
 gift_led tells w v h size faults who c lines W (Err Memory) G kept memory = record {
@@ -118,7 +118,7 @@ gift_led tells w v h size faults who c lines W (Err Memory) G kept memory = reco
   fits = subst (λ z. WorldFits z (seen h) size) (sym kept) W;
   quiet = refl;
   told = λ told state is. (state, subst (λ z. IsStateOf z h state) (sym kept) is, (refl, refl));
-  calls = λ told state is. told_none _ _ _ kept refl;
+  calls = λ told state is. told_none _ _ _ kept refl refl;
   rose = λ told state is. tt;
 }
 gift_led tells w v h size faults who c lines W (Err Io) G kept memory = absurd (cc memory)

@@ -15,8 +15,8 @@ use Rattle.tdb_openers.specs.Played.{growth, UnlessIo}
 use Rattle.tdb_openers.specs.declared.fault.RunFault.{RunFault}
 use Rattle.tdb_openers.specs.declared.fault.RunFault.TheVariants.{Io, Memory}
 use Rattle.tdb_world.specs.Whole.{Whole}
-use Rattle.tdb_world.specs.Courses.Calls.{Calls, CallsTell, StaysFormed, TellNoCall, TellsNoCall}
-use Rattle.tdb_world.specs.Courses.Led.{Moment, ToldCalls}
+use Rattle.tdb_world.specs.Courses.Calls.{Calls, StaysFormed, TellNoCall, TellsNoCall}
+use Rattle.tdb_world.specs.Courses.Led.{CallsTell, Lengths, Moment, ToldCalls}
 
 -- the line of a growth tells no call
 growth_by : (z : Bool) (from to : ℕ) → TellNoCall (if z then Lines.Grew from to ∷ [] else [])
@@ -78,12 +78,16 @@ join_quiet f state after line (gives_turns who play G) = absurd (cc play)
 join_quiet f state after line (gives_all who c mid play G more) = absurd (cc play)
 join_quiet f state after line (gives_death who play e D) = absurd (cc play)
 
-calls_join : (n m : ℕ) (w u v : Whole) (h k g : History) (front rest : List Line) → CallsTell n w h front u k → CallsTell m u k rest v g → (count : ℕ) × CallsTell count w h (front ++ rest) v g
-calls_join zero m w u v h k g front rest C D =
-    (m, subst (λ ls. CallsTell m w h (ls ++ rest) v g) (sym C.0) (subst (λ z. CallsTell m z h rest v g) C.1 (subst (λ z. CallsTell m u z rest v g) C.2 D)))
-calls_join (suc n) m w u v h k g front rest C D =
-    let J = calls_join n m C.0 u v C.1 k g C.3 rest C.7 D in
-    (suc J.0, (C.0, C.1, C.2, C.3 ++ rest, ap (λ ls. ls ++ rest) C.4 ∙ append_assoc C.2 C.3 rest, C.5, C.6, J.1))
+calls_join : (n m : ℕ) (w u v : Whole) (h k g : History) (from mid to : ℕ) (front rest : List Line) → CallsTell n w h from front u k mid → CallsTell m u k mid rest v g to
+    → (count : ℕ) × CallsTell count w h from (front ++ rest) v g to
+calls_join zero m w u v h k g from mid to front rest C D = (
+  m,
+  subst (λ ls. CallsTell m w h from (ls ++ rest) v g to) (sym C.0)
+      (subst (λ z. CallsTell m z h from rest v g to) C.1 (subst (λ z. CallsTell m u z from rest v g to) C.2 (subst (λ z. CallsTell m u k z rest v g to) C.3 D))),
+)
+calls_join (suc n) m w u v h k g from mid to front rest C D =
+    let J = calls_join n m C.0 u v C.1 k g C.2 mid to C.4 rest C.9 D in
+    (suc J.0, (C.0, C.1, C.2, C.3, C.4 ++ rest, ap (λ ls. ls ++ rest) C.5 ∙ append_assoc C.3 C.4 rest, C.6, C.7, C.8, J.1))
 
 -- what always holds, holds unless the disk failed
 unless : {V : Type 0} (r : Result V RunFault) (P : Type 0) → P → UnlessIo r P
@@ -92,29 +96,30 @@ unless (Err Memory) P p = p
 unless (Err Io) P p = tt
 
 -- no call was made, or none that lines tell before the disk failed
-pub told_none : {V : Type 0} (old new : Moment) (r : Result V RunFault) → new.world ≡ old.world → new.history ≡ old.history → ToldCalls old new r []
-told_none old new r world history = record { count = 0; world = old.world; history = old.history; calls = (refl, refl, refl); last = unless r _ (world, history) }
+pub told_none : {V : Type 0} (old new : Moment) (r : Result V RunFault) → new.world ≡ old.world → new.history ≡ old.history → new.size ≡ old.size → ToldCalls old new r []
+told_none old new r world history size = record { count = 0; world = old.world; history = old.history; size = old.size; calls = (refl, refl, refl, refl); last = unless r _ (world, history, size) }
 
 pub told_failed : {V : Type 0} (old new : Moment) → ToldCalls {V = V} old new (Err Io) []
-told_failed old new = record { count = 0; world = old.world; history = old.history; calls = (refl, refl, refl); last = tt }
+told_failed old new = record { count = 0; world = old.world; history = old.history; size = old.size; calls = (refl, refl, refl, refl); last = tt }
 
 -- one call was made
-pub told_one : {V : Type 0} (old new : Moment) (r : Result V RunFault) (lines : List Line) (v : Whole) (g : History) → StaysFormed old.world v → Calls old.world old.history lines v g → UnlessIo r ((new.world ≡ v) × (new.history ≡ g))
-    → ToldCalls old new r lines
-told_one old new r lines v g F C last = record { count = 1; world = v; history = g; calls = (v, g, lines, [], sym (append-nil lines), F, C, (refl, refl, refl)); last = last }
+pub told_one : {V : Type 0} (old new : Moment) (r : Result V RunFault) (lines : List Line) (v : Whole) (g : History) (to : ℕ) → StaysFormed old.world v → Lengths old.size lines to → Calls old.world old.history old.size lines v g
+    → UnlessIo r ((new.world ≡ v) × (new.history ≡ g) × (new.size ≡ to)) → ToldCalls old new r lines
+told_one old new r lines v g to F L C last = record { count = 1; world = v; history = g; size = to; calls = (v, g, to, lines, [], sym (append-nil lines), F, L, C, (refl, refl, refl, refl)); last = last }
 
 -- the same, with another answer
 pub told_whole : {V W : Type 0} (old new : Moment) (v : V) (w : W) (lines : List Line) → ToldCalls old new (Ok v) lines → ToldCalls old new (Ok w) lines
-told_whole old new v w lines A = record { count = A.count; world = A.world; history = A.history; calls = A.calls; last = A.last }
+told_whole old new v w lines A = record { count = A.count; world = A.world; history = A.history; size = A.size; calls = A.calls; last = A.last }
 
 pub told_fault : {V W : Type 0} (old new : Moment) (e : RunFault) (lines : List Line) → ToldCalls {V = V} old new (Err e) lines → ToldCalls {V = W} old new (Err e) lines
-told_fault old new Memory lines A = record { count = A.count; world = A.world; history = A.history; calls = A.calls; last = A.last }
-told_fault old new Io lines A = record { count = A.count; world = A.world; history = A.history; calls = A.calls; last = tt }
+told_fault old new Memory lines A = record { count = A.count; world = A.world; history = A.history; size = A.size; calls = A.calls; last = A.last }
+told_fault old new Io lines A = record { count = A.count; world = A.world; history = A.history; size = A.size; calls = A.calls; last = tt }
 
 -- and one part after another
 pub told_join : {U V : Type 0} (old mid new : Moment) (u : U) (r : Result V RunFault) (front rest : List Line) → ToldCalls old mid (Ok u) front → ToldCalls mid new r rest → ToldCalls old new r (front ++ rest)
 told_join old mid new u r front rest A B =
-    let behind : CallsTell B.count A.world A.history rest B.world B.history =
-    subst (λ k. CallsTell B.count A.world k rest B.world B.history) A.last.1 (subst (λ z. CallsTell B.count z mid.history rest B.world B.history) A.last.0 B.calls) in
-    let J = calls_join A.count B.count old.world A.world B.world old.history A.history B.history front rest A.calls behind in
-    record { count = J.0; world = B.world; history = B.history; calls = J.1; last = B.last }
+    let behind : CallsTell B.count A.world A.history A.size rest B.world B.history B.size =
+    subst (λ k. CallsTell B.count A.world A.history k rest B.world B.history B.size) A.last.2
+    (subst (λ k. CallsTell B.count A.world k mid.size rest B.world B.history B.size) A.last.1 (subst (λ z. CallsTell B.count z mid.history mid.size rest B.world B.history B.size) A.last.0 B.calls)) in
+    let J = calls_join A.count B.count old.world A.world B.world old.history A.history B.history old.size A.size B.size front rest A.calls behind in
+    record { count = J.0; world = B.world; history = B.history; size = B.size; calls = J.1; last = B.last }

@@ -50,7 +50,7 @@ led_none tells m v All Part Last fits whole = record {
   fits = fits;
   quiet = refl;
   told = λ told state is. (state, is, whole state is);
-  calls = λ told state is. told_none m m (Ok v) refl refl;
+  calls = λ told state is. told_none m m (Ok v) refl refl refl;
   rose = λ told state is. tt;
 }
 

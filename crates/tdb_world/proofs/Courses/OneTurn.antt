@@ -1,5 +1,5 @@
 -- A turn of an opener and its lines, as they lead from one moment to the next.
-use Rattle.std.proofs.Common.{◌≡◌, ℕ, ◌≤◌, Bool, false, IsTrue, List, [], ◌∷◌, ◌++◌, Option, Some, None, Result, Ok, Err, refl, sym, ◌∙◌, ap, subst, inl, inr, arith, append_assoc, append-nil}
+use Rattle.std.proofs.Common.{◌≡◌, ℕ, ◌≤◌, Bool, false, IsTrue, List, [], ◌∷◌, ◌++◌, length, Option, Some, None, Result, Ok, Err, refl, sym, ◌∙◌, ap, subst, inl, inr, arith, append_assoc, append-nil}
 use Rattle.tdb_disk.specs.Count.{Rose, HasCauseOf}
 use Rattle.tdb_disk.specs.History.{History, seen}
 use Rattle.tdb_space.specs.Form.{Form, form_in}
@@ -25,7 +25,7 @@ use Rattle.tdb_openers.specs.Worlds.{state_in}
 use Rattle.tdb_world.specs.Whole.{Whole, WorldFits, form_at}
 use Rattle.tdb_world.specs.States.{IsStateOf}
 use Rattle.tdb_world.specs.States.IsStateOf.{of_whole, of_stale}
-use Rattle.tdb_world.specs.Steps.{HasCommand, IsAmong, TurnLeads, UndoLeads}
+use Rattle.tdb_world.specs.Steps.{HasCommand, HasThis, IsAmong, TurnLeads, UndoLeads}
 use Rattle.tdb_world.specs.Steps.HasCommand.{by_aside, by_start, by_job}
 use Rattle.tdb_world.specs.Steps.IsAmong.{among_all, among_others}
 use Rattle.tdb_world.specs.Died.{IsReadAs}
@@ -51,15 +51,19 @@ stale_in w h state (of_whole S) = ap (λ (z : State). z.stale) S.is ∙ (stale_s
 stale_in w h state (of_stale S) = ap (λ (z : State). z.stale) S.is ∙ sym S.stale
 
 -- the world without its open gate has the same commands
+still_among : (w : Whole) (who : ℕ) → IsAmong w who → IsAmong (record w { stale = false }) who
+still_among w who (among_all none) = among_all none
+still_among w who (among_others hd e other) = among_others hd e other
+
 pub cleared_busy : (w : Whole) (who : ℕ) → HasCommand w who → HasCommand (record w { stale = false }) who
 cleared_busy w who (by_aside hd t e owner busy) = by_aside hd t e owner busy
 cleared_busy w who (by_start begun among) = by_start begun (still_among w who among)
-  where
-    still_among : (w : Whole) (who : ℕ) → IsAmong w who → IsAmong (record w { stale = false }) who
-    still_among w who (among_all none) = among_all none
-    still_among w who (among_others hd e other) = among_others hd e other
-cleared_busy w who (by_job x t B none (among_all out)) = by_job x t B none (among_all out)
-cleared_busy w who (by_job x t B none (among_others hd e other)) = by_job x t B none (among_others hd e other)
+cleared_busy w who (by_job x t B none among) = by_job x t B none (still_among w who among)
+
+pub cleared_this : (w : Whole) (who : ℕ) (c : LawCommand) → HasThis w who c → HasThis (record w { stale = false }) who c
+cleared_this w who c (by_aside hd t e owner busy, same) = (by_aside hd t e owner busy, same)
+cleared_this w who c (by_start begun among, same) = (by_start begun (still_among w who among), same)
+cleared_this w who c (by_job x t B none among, same) = (by_job x t B none (still_among w who among), same)
 
 -- Where nothing was told, and nothing done: for want of memory, or where a call of the disk failed.
 pub nothing_led : {U V : Type 0} (tells : Bool) (w : Whole) (h g : History) (size longer before now : ℕ) (old new : List Line) (e : RunFault) (All : State → V → List LawLine → State → Type 0) (Last : State → List LawLine → State → Type 0)
@@ -75,7 +79,7 @@ nothing_led tells w h g size longer before now old new Memory All Last same equa
   fits = subst (λ z. WorldFits w (seen z) longer) (sym same) (subst (WorldFits w (seen h)) (sym equal) W);
   quiet = cause.refused (λ e. cc);
   told = λ told state is. (state, subst (λ z. IsStateOf w z state) (sym same) is, (refl, refl));
-  calls = λ told state is. told_none _ _ _ refl same;
+  calls = λ told state is. told_none _ _ _ refl same equal;
   rose = λ told state is. tt;
 }
 nothing_led tells w h g size longer before now old new Io All Last same equal lines W cause last = record {
@@ -124,7 +128,9 @@ undone_led answer tells w v h g size shorter before now bytes to old new world l
   fits = W;
   quiet = quiet;
   told = λ told state is. (let J = undoes told state is in (J.0, J.1, clears_gate bytes to refl J.2));
-  calls = λ told state is. told_one _ _ _ _ v g (record { header = ap (λ (z : Whole). z.openers.header) world; options = ap (λ (z : Whole). z.openers.options) world }) (calls_undo bytes to refl (undoes told)) (refl, refl);
+  calls = λ told state is.
+      told_one _ _ _ _ v g shorter (record { header = ap (λ (z : Whole). z.openers.header) world; options = ap (λ (z : Whole). z.openers.options) world })
+      (let e = length in (omega (arith, low, e), sym length)) (calls_undo bytes to refl (undoes told)) (refl, refl, refl);
   rose = λ told state is. tt;
 }
 
@@ -149,7 +155,8 @@ takes_one f old new who (Turns.Blocked o b) lines A = (law_turn (Turns.Blocked o
 takes_one f old new who (Turns.Done r) lines A = (law_turn (Turns.Done r), tt, A)
 
 module _ (tells : Bool) (w v : Whole) (h g : History) (from before who : ℕ) (command : Command) (turn : Turn) (old new : List Line) (turned : IsTrue tells → TurnLeads w v h g who (law_turn turn))
-    (full : IsTrue tells → FullOfTurn w h who (law_turn turn)) (header : v.openers.header ≡ w.openers.header) (options : v.openers.options ≡ w.openers.options) where
+    (full : IsTrue tells → FullOfTurn w h who (law_turn turn)) (header : v.openers.header ≡ w.openers.header) (options : v.openers.options ≡ w.openers.options)
+    (has : HasThis w who (law_command command)) (sized : IsTrue tells → length (seen h) ≡ from) where
   takes : (grown : List Line) → Grows (law_lines grown) → IsTrue tells → (state : State) → IsStateOf w h state → (after : State) × IsStateOf v g after
       × (IsToldOf state (law_opener who) (law_command command) → TakesOne (form_at w) state (law_opener who) (is_step turn) (law_lines (Lines.Took who command turn ∷ grown)) after)
   takes grown G told state is =
@@ -173,7 +180,7 @@ module _ (tells : Bool) (w v : Whole) (h g : History) (from before who : ℕ) (c
     fits = W;
     quiet = quiet;
     told = takes (growth from to) (growth_grows from to longer).0;
-    calls = λ told state is. told_one _ _ _ _ v g formed (calls_turn who command turn (growth from to) refl (growth_quiet from to) (turned told) (full told)) (refl, refl);
+    calls = λ told state is. told_one _ _ _ _ v g to formed (growth_grows from to longer).1 (calls_turn who command turn (growth from to) refl (growth_quiet from to) has (sized told) (turned told) (full told)) (refl, refl, refl);
     rose = λ told state is. tt;
   }
 
@@ -192,7 +199,7 @@ module _ (tells : Bool) (w v : Whole) (h g : History) (from before who : ℕ) (c
     fits = tt;
     quiet = tt;
     told = λ told state is. (let T = takes [] (grows_not refl) told state is in (T.0, λ mine. inr (is_step turn, T.2 mine)));
-    calls = λ told state is. told_one _ _ _ _ v g formed (calls_turn who command turn [] refl tt (turned told) (full told)) tt;
+    calls = λ told state is. told_one _ _ _ _ v g from formed refl (calls_turn who command turn [] refl tt has (sized told) (turned told) (full told)) tt;
     rose = rose;
   }
 

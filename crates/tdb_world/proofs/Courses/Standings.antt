@@ -19,7 +19,7 @@ use Rattle.tdb_openers.specs.declared.job.Task.{Task as JobTask}
 use Rattle.tdb_openers.specs.declared.opener.Opener.{Opener}
 use Rattle.tdb_world.specs.States.{IsStateOf, SideIs}
 use Rattle.tdb_world.specs.States.IsStateOf.{of_whole, of_stale}
-use Rattle.tdb_world.specs.Steps.{HasCommand, HasNoCommand, IsAmong}
+use Rattle.tdb_world.specs.Steps.{command_had, HasCommand, HasNoCommand, HasThis, IsAmong}
 use Rattle.tdb_world.specs.Steps.HasCommand.{by_aside, by_start, by_job}
 use Rattle.tdb_world.specs.Steps.HasNoCommand.{idle_aside, idle_among}
 use Rattle.tdb_world.specs.Steps.IsAmong.{among_all, among_others}
@@ -55,18 +55,22 @@ module _ (w : Whole) (img : List ℕ) (size : ℕ) (F : WorldFits w img size) wh
   aside_live hd e h state (of_stale S) = absurd (let none : None ≡ Some hd = sym S.nobody ∙ e in cc none)
 
   -- an opener that has a command has the same one in each state
-  same_task : (who : ℕ) → HasCommand w who → (t : Task) × ((h : History) (state : State) → IsStateOf w h state → state.task (law_opener who) ≡ Some t)
-  same_task who (by_aside hd t e owner busy) = (t, λ h state is. ap (λ n. state.task (law_opener n)) owner ∙ aside_task w hd img size F e h state is ∙ busy)
-  same_task who (by_start begun among) = (new_start, λ h state is. start_in w (law_opener who) h state begun is)
+  same_task : (who : ℕ) (B : HasCommand w who) → (t : Task) × ((h : History) (state : State) → IsStateOf w h state → state.task (law_opener who) ≡ Some t) × (t.command ≡ command_had B)
+  same_task who (by_aside hd t e owner busy) = (t, (λ h state is. ap (λ n. state.task (law_opener n)) owner ∙ aside_task w hd img size F e h state is ∙ busy), refl)
+  same_task who (by_start begun among) = (new_start, (λ h state is. start_in w (law_opener who) h state begun is), refl)
   same_task who (by_job x t B none among) =
-      (law_of_task t, λ h state is. task_in w who (named_by w who x B.number) among h state none is ∙ ap task_at (there_named w.openers who x B.number) ∙ ap law_task B.busy)
+      (law_of_task t, (λ h state is. task_in w who (named_by w who x B.number) among h state none is ∙ ap task_at (there_named w.openers who x B.number) ∙ ap law_task B.busy), refl)
 
   -- and some command of the code is that one
-  pub told_command : (who : ℕ) → HasCommand w who → (command : Command) × ((h : History) (state : State) → IsStateOf w h state → IsToldOf state (law_opener who) (law_command command))
+  pub told_command : (who : ℕ) → HasCommand w who
+      → (command : Command) × ((h : History) (state : State) → IsStateOf w h state → IsToldOf state (law_opener who) (law_command command)) × HasThis w who (law_command command)
   told_command who B =
       let T = same_task who B in
-      let C = each_command.each T.0.command in
-      (C.0, λ h state is t e. let same : T.0 ≡ t = (let both : Some T.0 ≡ Some t = sym (T.1 h state is) ∙ e in cc both) in C.2 ∙ ap (λ (u : Task). u.command) same)
+      let C = each_command.each T.0.command in (
+        C.0,
+        (λ h state is t e. let same : T.0 ≡ t = (let both : Some T.0 ≡ Some t = sym (T.1 h state is) ∙ e in cc both) in C.2 ∙ ap (λ (u : Task). u.command) same),
+        (B, C.2 ∙ T.2),
+      )
 
   module _ (who : ℕ) (h : History) (state : State) (is : IsStateOf w h state) where
     -- an opener that has a command has it in each state, and is live there

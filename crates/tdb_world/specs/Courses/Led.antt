@@ -1,5 +1,5 @@
 -- What plays in a world lead to, and what their report tells.
-use Rattle.std.specs.Prelude.{ℕ, ◌≡◌, ◌≤◌, ◌<◌, List, [], ◌∷◌, ◌++◌, Bool, IsTrue, Result, Ok, Err}
+use Rattle.std.specs.Prelude.{ℕ, zero, suc, ◌≡◌, ◌≤◌, ◌<◌, List, [], ◌∷◌, ◌++◌, Bool, IsTrue, Result, Ok, Err}
 use Rattle.tdb_disk.specs.Count.{Rose}
 use Rattle.tdb_disk.specs.History.{History, seen}
 use Rattle.tdb_law.specs.World.{State}
@@ -12,7 +12,7 @@ use Rattle.tdb_openers.specs.declared.fault.RunFault.{RunFault}
 use Rattle.tdb_openers.specs.declared.fault.RunFault.TheVariants.{Io, Memory}
 use Rattle.tdb_world.specs.Whole.{Whole, WorldFits}
 use Rattle.tdb_world.specs.States.{IsStateOf}
-use Rattle.tdb_world.specs.Courses.Calls.{CallsTell}
+use Rattle.tdb_world.specs.Courses.Calls.{Calls, StaysFormed}
 
 -- A moment of a play: the world, the history and the length of its file, the count of faults of the disk, and the lines
 -- of the report.
@@ -46,13 +46,22 @@ Comes (Ok v) IsLeft Whole Part Last lines = (after : State) × IsLeft after × W
 Comes (Err Memory) IsLeft Whole Part Last lines = (after : State) × IsLeft after × Part lines after
 Comes (Err Io) IsLeft Whole Part Last lines = (left : State) × Last lines left
 
+-- So many calls, in their order. Over the lines so far the file has the first of the two lengths, and behind them all
+-- the other.
+abbrev pub CallsTell : ℕ → Whole → History → ℕ → List Line → Whole → History → ℕ → Type 0
+CallsTell zero w h size lines v g to = (lines ≡ []) × (v ≡ w) × (g ≡ h) × (to ≡ size)
+CallsTell (suc n) w h size lines v g to =
+    (u : Whole) × (k : History) × (next : ℕ) × (front : List Line) × (rest : List Line) × (lines ≡ front ++ rest) × StaysFormed w u × Lengths size front next
+    × Calls w h size front u k × CallsTell n u k next rest v g to
+
 -- Lines tell the calls that led from one moment to another; where the disk failed, those in front of the failed one.
 pub record ToldCalls {V : Type 0} (old new : Moment) (answer : Result V RunFault) (lines : List Line) : Type 0 where
   pub count : ℕ
   pub world : Whole
   pub history : History
-  pub calls : CallsTell count old.world old.history lines world history
-  pub last : UnlessIo answer ((new.world ≡ world) × (new.history ≡ history))
+  pub size : ℕ
+  pub calls : CallsTell count old.world old.history old.size lines world history size
+  pub last : UnlessIo answer ((new.world ≡ world) × (new.history ≡ history) × (new.size ≡ size))
 
 -- What leads from one moment to another, with this answer, over a disk that tells its bytes or doesn't: lines were
 -- added, which tell from each state of the world what was done, each call, and each growth of the file. Unless the disk

@@ -3,6 +3,7 @@ ghost use Rattle.std.specs.Prelude.{◌≡◌, ◌≤◌, ◌+◌, ℕ, List, So
 ghost use Rattle.tdb_disk.specs.Count.{HasCause, HasCauseOf};
 ghost use Rattle.tdb_disk.specs.History.{History, seen};
 ghost use Rattle.tdb_disk.specs.Stop.{LeavesOnly};
+ghost use Rattle.tdb_law.specs.Commands.{Command as LawCommand};
 ghost use Rattle.tdb_law.specs.Openers.{Task};
 ghost use Rattle.tdb_law.specs.Plays.{Clears};
 ghost use Rattle.tdb_law.specs.World.{State};
@@ -10,7 +11,7 @@ ghost use Rattle.tdb_commands.specs.InLaw.{law_opener, law_command};
 ghost use Rattle.tdb_openers.specs.Played.{Nothing, TakesLast, TakesOne};
 ghost use Rattle.tdb_world.specs.Whole.{form_at, WorldFits};
 ghost use Rattle.tdb_world.specs.States.{IsStateOf};
-ghost use Rattle.tdb_world.specs.Steps.{HasCommand};
+ghost use Rattle.tdb_world.specs.Steps.{HasCommand, HasThis};
 ghost use Rattle.tdb_world.specs.Stops.{IsChanging, IsSafe, OpensToState, TurnMayLeave};
 ghost use Rattle.tdb_world.specs.Courses.Led.{moment, Led};
 ghost use Rattle.tdb_world.specs.Courses.Stops.{StopsLed, ToldWhereTaken};
@@ -43,6 +44,7 @@ fn before_turn<D: Disk>(
 ) -> Result<(Command, u64), RunFault>
     requires busy { HasCommand world.now who }
     requires fits { (img : List ℕ) × (size : ℕ) × WorldFits world.now img size }
+    ensures has { IfOk result (λ made. HasThis world.now who (law_command made.0)) }
     ensures command { IfOk result (λ made. (h : History) (state : State) (t : Task) → IsStateOf world.now h state → state.task (law_opener who) ≡ Some t → law_command made.0 ≡ t.command) }
     ensures length { IfOk result (λ made. made.1 ≡ D.size d.old) }
     ensures room { OnOk result (3 ≤ report.new.room) }
@@ -79,6 +81,7 @@ fn clear_gate<D: Disk>(
     ensures room { OnOk result (report.old.room ≤ report.new.room + 1) }
     ensures fresh { OnOk result (world.new.stale ≡ false) }
     ensures busy { OnOk result ((who : ℕ) → HasCommand world.old who → HasCommand world.new who) }
+    ensures has { OnOk result ((who : ℕ) (command : LawCommand) → HasThis world.old who command → HasThis world.new who command) }
 {
     if !world.is_stale() {
         return Ok(from);
@@ -101,6 +104,7 @@ fn take_turn<D: Disk>(
 ) -> Result<bool, RunFault>
     requires named { 1 ≤ who }
     requires busy { HasCommand world.old who }
+    requires has { HasThis world.old who (law_command command) }
     requires fresh { world.old.stale ≡ false }
     requires length { from ≡ D.size d.old }
     requires room { 2 ≤ report.old.room }

@@ -2,6 +2,7 @@
 ghost use Rattle.std.specs.Prelude.{◌≡◌, ◌≤◌, ◌++◌, [], ℕ, List, IsTrue, OnOk, OnErr, IfErr, false};
 ghost use Rattle.tdb_disk.specs.History.{seen};
 ghost use Rattle.tdb_disk.specs.Stop.{LeavesOnly};
+ghost use Rattle.tdb_law.specs.Commands.{Command as LawCommand};
 ghost use Rattle.tdb_law.specs.Plays.{Clears, Play as LawPlay};
 ghost use Rattle.tdb_law.specs.World.{State};
 ghost use Rattle.tdb_commands.specs.InLaw.{law_opener, law_command};
@@ -11,7 +12,7 @@ ghost use Rattle.tdb_commands.specs.Short.{IsShortCommand};
 ghost use Rattle.tdb_openers.specs.Played.{growth, is_step, Nothing, TakesLast, TakesOne};
 ghost use Rattle.tdb_world.specs.Whole.{form_at, WorldFits};
 ghost use Rattle.tdb_world.specs.States.{IsStateOf};
-ghost use Rattle.tdb_world.specs.Steps.{HasCommand};
+ghost use Rattle.tdb_world.specs.Steps.{HasCommand, HasThis};
 ghost use Rattle.tdb_world.specs.Stops.{IsChanging, IsSafe, OpensToState, TurnMayLeave};
 ghost use Rattle.tdb_world.specs.Courses.Hearing.{HeardBy};
 ghost use Rattle.tdb_world.specs.Courses.Led.{moment, Led};
@@ -50,6 +51,7 @@ fn undo_gate<D: Disk>(world: &mut AllOpeners, d: &mut D) -> Result<Option<Undone
     ensures safe { OnOk result (IsTrue D.tells → (state : State) → let f = form_at world.old in IsStateOf world.old (D.history d.old) state → IsSafe f (D.history d.old) → IsSafe f (D.history d.new)) }
     ensures fresh { OnOk result (world.new.stale ≡ false) }
     ensures busy { OnOk result ((who : ℕ) → HasCommand world.old who → HasCommand world.new who) }
+    ensures has { OnOk result ((who : ℕ) (command : LawCommand) → HasThis world.old who command → HasThis world.new who command) }
     ensures fault { IfErr result (λ fault. fault ≡ RunFault.Io) }
 {
     if !world.is_stale() {
@@ -69,7 +71,7 @@ fn measured_turn<D: Disk>(
     requires busy { HasCommand world.old who }
     requires fresh { world.old.stale ≡ false }
     requires fits { WorldFits world.old (seen (D.history d.old)) (D.size d.old) }
-    ensures led { (command : Command) (front : List Line) → Led D.tells (moment world.old (D.history d.old) (D.size d.old) (D.faults d.old) front)
+    ensures led { (command : Command) (front : List Line) → HasThis world.old who (law_command command) → Led D.tells (moment world.old (D.history d.old) (D.size d.old) (D.faults d.old) front)
         (moment world.new (D.history d.new) (D.size d.new) (D.faults d.new) (front ++ turn_lines who command result)) result
         (λ state measured lines new. IsToldOf state (law_opener who) (law_command command) → TakesOne (form_at world.old) state (law_opener who) (is_step measured.turn) lines new)
         Never

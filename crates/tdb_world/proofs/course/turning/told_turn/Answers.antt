@@ -34,6 +34,9 @@ returns-in_err-from-clause-led g c =
 pub take_turn-requires-clause-busy : goal.take_turn-requires-clause-busy
 take_turn-requires-clause-busy g c = c.in_ok-from.ensures.busy c.args.who c.requires.busy
 
+pub take_turn-requires-clause-has : goal.take_turn-requires-clause-has
+take_turn-requires-clause-has g c = c.in_ok-from.ensures.has c.args.who (law_command c.in_ok-command.command) c.in_ok-command.ensures.has
+
 pub returns-clause-led : goal.returns-clause-led
 returns-clause-led g c =
     let w = c.args.world.now in

@@ -1,6 +1,7 @@
 -- A gate is undone, the turn is taken, and the last log is told of both.
 use Rattle.std.proofs.Common.{[], Ok, refl}
 use Rattle.std.proofs.lemmas.Result.{err_from_is_err_and}
+use Rattle.tdb_commands.specs.InLaw.{law_command}
 use Rattle.tdb_world.specs.Courses.Led.{moment}
 use Rattle.tdb_world.specs.Courses.Unreported.{undo_lines}
 use Rattle.tdb_world.proofs.Courses.Standings.{told_command}
@@ -28,7 +29,7 @@ returns-in_err-turn-clause-led g c =
     let T = told_command w _ _ c.requires.fits c.args.who c.requires.busy in
     rw (q.1, q.2)
     (turn_failed g.D.Disk.tells old mid new c.args.who T.0 (T.1 h) refl c.in_ok-undone.undone c.in_ok-undone.ensures.led c.undo_gate.ensures.stops c.in_ok-undone.ensures.safe c.measured_turn.ensures.stops (g.L.Logs.logs c.args.logs.now) (g.L.Logs.logs c.note_undone-told.new.logs)
-    c.note_undone-told.result c.note_undone-told.ensures.heard c.in_err-turn.field-0.0 (c.in_err-turn.ensures.led T.0 (undo_lines (Ok c.in_ok-undone.undone))))
+    c.note_undone-told.result c.note_undone-told.ensures.heard c.in_err-turn.field-0.0 (c.in_err-turn.ensures.led T.0 (undo_lines (Ok c.in_ok-undone.undone)) (c.in_ok-undone.ensures.has c.args.who (law_command T.0) T.2)))
 
 pub returns-in-Err-clause-led : goal.returns-in-Err-clause-led
 returns-in-Err-clause-led g c =
@@ -39,7 +40,7 @@ returns-in-Err-clause-led g c =
     let new = moment c.measured_turn.new.world (g.D.Disk.history c.measured_turn.new.d) (g.D.Disk.size c.measured_turn.new.d) (g.D.Disk.faults c.measured_turn.new.d) [] in
     let T = told_command w _ _ c.requires.fits c.args.who c.requires.busy in
     undo_refused g.D.Disk.tells old mid new c.args.who T.0 (T.1 h) refl c.in_ok-undone.undone c.in_ok-undone.ensures.led c.undo_gate.ensures.stops c.in_ok-undone.ensures.safe c.measured_turn.ensures.stops (g.L.Logs.logs c.args.logs.now) (g.L.Logs.logs c.note_undone-told.new.logs)
-    c.in-Err.refusal c.in-Err.ensures.heard c.in_ok-turn.field-0 (c.in_ok-turn.ensures.led T.0 (undo_lines (Ok c.in_ok-undone.undone))) c.in_ok-turn.ensures.safe
+    c.in-Err.refusal c.in-Err.ensures.heard c.in_ok-turn.field-0 (c.in_ok-turn.ensures.led T.0 (undo_lines (Ok c.in_ok-undone.undone)) (c.in_ok-undone.ensures.has c.args.who (law_command T.0) T.2)) c.in_ok-turn.ensures.safe
 
 pub returns-in-Ok-clause-led : goal.returns-in-Ok-clause-led
 returns-in-Ok-clause-led g c =
@@ -50,7 +51,7 @@ returns-in-Ok-clause-led g c =
     let new = moment c.measured_turn.new.world (g.D.Disk.history c.measured_turn.new.d) (g.D.Disk.size c.measured_turn.new.d) (g.D.Disk.faults c.measured_turn.new.d) [] in
     let T = told_command w _ _ c.requires.fits c.args.who c.requires.busy in
     turn_heard g.D.Disk.tells old mid new c.args.who T.0 (T.1 h) refl c.in_ok-undone.undone c.in_ok-undone.ensures.led c.undo_gate.ensures.stops c.in_ok-undone.ensures.safe c.measured_turn.ensures.stops (g.L.Logs.logs c.args.logs.now) (g.L.Logs.logs c.note_undone-told.new.logs)
-    c.in_default.ensures.heard c.in_ok-turn.field-0 (c.in_ok-turn.ensures.led T.0 (undo_lines (Ok c.in_ok-undone.undone))) c.in_ok-turn.ensures.safe (g.L.Logs.logs c.note_growth.new.logs) c.in-Ok.ensures.heard
+    c.in_default.ensures.heard c.in_ok-turn.field-0 (c.in_ok-turn.ensures.led T.0 (undo_lines (Ok c.in_ok-undone.undone)) (c.in_ok-undone.ensures.has c.args.who (law_command T.0) T.2)) c.in_ok-turn.ensures.safe (g.L.Logs.logs c.note_growth.new.logs) c.in-Ok.ensures.heard
 
 pub returns-in-Err-note_growth-clause-led : goal.returns-in-Err-note_growth-clause-led
 returns-in-Err-note_growth-clause-led g c =
@@ -61,4 +62,4 @@ returns-in-Err-note_growth-clause-led g c =
     let new = moment c.measured_turn.new.world (g.D.Disk.history c.measured_turn.new.d) (g.D.Disk.size c.measured_turn.new.d) (g.D.Disk.faults c.measured_turn.new.d) [] in
     let T = told_command w _ _ c.requires.fits c.args.who c.requires.busy in
     growth_refused g.D.Disk.tells old mid new c.args.who T.0 (T.1 h) refl c.in_ok-undone.undone c.in_ok-undone.ensures.led c.undo_gate.ensures.stops c.in_ok-undone.ensures.safe c.measured_turn.ensures.stops (g.L.Logs.logs c.args.logs.now) (g.L.Logs.logs c.note_undone-told.new.logs)
-    c.in_default.ensures.heard c.in_ok-turn.field-0 (c.in_ok-turn.ensures.led T.0 (undo_lines (Ok c.in_ok-undone.undone))) c.in_ok-turn.ensures.safe (g.L.Logs.logs c.note_growth.new.logs) c.in-Err-note_growth.refusal c.in-Err-note_growth.ensures.heard
+    c.in_default.ensures.heard c.in_ok-turn.field-0 (c.in_ok-turn.ensures.led T.0 (undo_lines (Ok c.in_ok-undone.undone)) (c.in_ok-undone.ensures.has c.args.who (law_command T.0) T.2)) c.in_ok-turn.ensures.safe (g.L.Logs.logs c.note_growth.new.logs) c.in-Err-note_growth.refusal c.in-Err-note_growth.ensures.heard

@@ -18,14 +18,14 @@ use Rattle.tdb_world.proofs.Courses.StoppedTurns.{no_turn_stops, same_keeps, sam
 use Rattle.tdb_world.proofs.course.unreported.measured_turn.Goals as goal
 
 pub returns-in_err-from-clause-led : goal.returns-in_err-from-clause-led
-returns-in_err-from-clause-led g c command front =
+returns-in_err-from-clause-led g c command front has =
     let q = err_from_is_err_and c.from_residual.result c.from_residual.ensures.1 in
     rw (q.1, q.2)
     (failed_led g.D.Disk.tells c.args.world.now c.args.world.now (g.D.Disk.history c.args.d.now) (g.D.Disk.history c.length_of.new.d) (g.D.Disk.size c.args.d.now) (g.D.Disk.size c.length_of.new.d)
     (g.D.Disk.faults c.args.d.now) (g.D.Disk.faults c.length_of.new.d) front (front ++ []) _ _ _ c.length_of.ensures.cause.never_falls (append-nil front) (λ told state is. c.in_err-from.ensures.cause.failed) (λ state mine. inl (refl, refl)))
 
 pub returns-in_err-turn-clause-led : goal.returns-in_err-turn-clause-led
-returns-in_err-turn-clause-led g c command front =
+returns-in_err-turn-clause-led g c command front has =
     let q = err_from_is_err_and c.from_residual-in_err-turn.result c.from_residual-in_err-turn.ensures.1 in
     let w = c.args.world.now in
     let h = g.D.Disk.history c.length_of.new.d in
@@ -41,7 +41,7 @@ returns-in_err-turn-clause-led g c command front =
     (λ told state is. (c.in_err-turn.ensures.cause told state is).failed) (λ state mine. inl (refl, refl))))
 
 pub returns-in_err-to-clause-led : goal.returns-in_err-to-clause-led
-returns-in_err-to-clause-led g c command front =
+returns-in_err-to-clause-led g c command front has =
     let q = err_from_is_err_and c.from_residual-in_err-to.result c.from_residual-in_err-to.ensures.1 in
     let w = c.args.world.now in
     let h = g.D.Disk.history c.length_of.new.d in
@@ -59,7 +59,7 @@ returns-in_err-to-clause-led g c command front =
     (λ told state is. subst (λ n. Rose n now) c.in_ok-turn.ensures.done c.in_err-to.ensures.cause.failed) (λ state mine. inl (refl, refl))))
 
 pub returns-clause-led : goal.returns-clause-led
-returns-clause-led g c command front =
+returns-clause-led g c command front has =
     let w = c.args.world.now in
     let v = c.turn.new.self in
     let h = g.D.Disk.history c.length_of.new.d in
@@ -86,7 +86,7 @@ returns-clause-led g c command front =
     (same_moment w (g.D.Disk.history c.args.d.now) h (g.D.Disk.size c.args.d.now) from (g.D.Disk.faults c.args.d.now) before front front c.length_of.ensures.history c.length_of.ensures.size c.in_ok-from.ensures.cause.done refl)
     (led_whole g.D.Disk.tells old new _ Never Never _ _ _ (is_step turn) measured
     (took_led g.D.Disk.tells w v h z from before c.args.who command turn front all (λ told. subst (λ u. TurnLeads w v h u c.args.who (law_turn turn)) (sym c.length_of-2.ensures.history) (c.in_ok-turn.ensures.turned told))
-    c.in_ok-turn.ensures.full c.in_ok-turn.ensures.header c.in_ok-turn.ensures.options to now _ _ (omega (arith, longer, kept)) (c.in_ok-to.ensures.cause.done ∙ c.in_ok-turn.ensures.done)
+    c.in_ok-turn.ensures.full c.in_ok-turn.ensures.header c.in_ok-turn.ensures.options has (g.met.D.Disk.told_size c.length_of.new.d) to now _ _ (omega (arith, longer, kept)) (c.in_ok-to.ensures.cause.done ∙ c.in_ok-turn.ensures.done)
     (subst (λ u. WorldFits v (seen u) to) (sym c.length_of-2.ensures.history) (subst (WorldFits v (seen (g.D.Disk.history c.turn.new.d))) (sym kept) c.in_ok-turn.ensures.fits)) lines) (λ state lines z is T. T))
 
 pub returns-in_err-from-clause-stops : goal.returns-in_err-from-clause-stops

@@ -2,11 +2,11 @@
 use Rattle.std.proofs.Common.{[], None, Some, Ok, refl, sym, ◌∙◌, subst}
 use Rattle.std.proofs.lemmas.Result.{err_from_is_err_and}
 use Rattle.tdb_law.specs.Plays.Clears.{clears_nothing}
-use Rattle.tdb_world.specs.Steps.{HasCommand}
+use Rattle.tdb_world.specs.Steps.{HasCommand, HasThis}
 use Rattle.tdb_world.specs.Courses.Led.{moment}
 use Rattle.tdb_world.specs.Courses.Unreported.{undo_lines}
 use Rattle.tdb_world.proofs.Courses.Leading.{led_none}
-use Rattle.tdb_world.proofs.Courses.OneTurn.{cleared_busy, failed_led, stale_in, undone_led}
+use Rattle.tdb_world.proofs.Courses.OneTurn.{cleared_busy, cleared_this, failed_led, stale_in, undone_led}
 use Rattle.tdb_world.proofs.Courses.Stopping.{safe_opens}
 use Rattle.tdb_world.proofs.course.unreported.undo_gate.Goals as goal
 
@@ -32,6 +32,9 @@ returns-clause-led g c =
 
 pub returns-clause-busy : goal.returns-clause-busy
 returns-clause-busy g c who busy = subst (λ w. HasCommand w who) (sym c.in_ok-undone.ensures.world) (cleared_busy c.args.world.now who busy)
+
+pub returns-clause-has : goal.returns-clause-has
+returns-clause-has g c who command has = subst (λ w. HasThis w who command) (sym c.in_ok-undone.ensures.world) (cleared_this c.args.world.now who command has)
 
 pub returns-then-not-is_stale-clause-stops : goal.returns-then-not-is_stale-clause-stops
 returns-then-not-is_stale-clause-stops g c told state is safe = safe_opens c.args.world.now (g.D.Disk.history c.args.d.now) state is safe
