@@ -33,6 +33,7 @@ pub mod OtherTurns
 pub mod Spared
 pub mod Outside
 pub mod Fullness
+pub mod Stopped
 pub mod OwnStart
 pub mod DeathsAmong
 pub mod DeathsAside

@@ -4,6 +4,7 @@ pub mod Steps
 pub mod Claims
 pub mod Shut
 pub mod Room
+pub mod Stopped
 pub mod Died
 pub mod Stops
 pub mod Calm

@@ -20,6 +20,7 @@ ghost use Rattle.tdb_world.specs.Whole.{form_at, WorldFits};
 ghost use Rattle.tdb_world.specs.States.{IsStateOf};
 ghost use Rattle.tdb_world.specs.Steps.{with_aside, HasCommand, TurnLeads};
 ghost use Rattle.tdb_world.specs.Room.{FullAside, FullOfTurn};
+ghost use Rattle.tdb_world.specs.Stopped.{StoppedAside, StopsRightly};
 ghost use Rattle.tdb_world.specs.Stops.{IsSafe, TurnMayLeave};
 ghost use Rattle.tdb_world.specs.declared.aside.Claim.TheVariants as Claim;
 ghost use Rattle.tdb_txn_owner.specs.Syncs.{HolderSyncs};
@@ -97,6 +98,7 @@ impl AllOpeners {
         ensures fresh { OnOk result (self.new.stale ≡ false) }
         ensures turned { IfOk result (λ turn. IsTrue D.tells → TurnLeads (with_aside self.old holder) self.new (D.history d.old) (D.history d.new) holder.owner (law_turn turn)) }
         ensures full { IfOk result (λ turn. IsTrue D.tells → FullAside (with_aside self.old holder) holder (D.history d.old) (law_turn turn)) }
+        ensures stopped { OnErr result (IsTrue D.tells → StoppedAside (with_aside self.old holder) holder (D.history d.old) (D.history d.new)) }
         ensures stops { IsTrue D.tells → (state : State) → let f = form_at self.old in IsStateOf (with_aside self.old holder) (D.history d.old) state → IsSafe f (D.history d.old)
             → LeavesOnly (D.history d.old) (D.history d.new) (TurnMayLeave f state (law_opener holder.owner)) }
         ensures safe { OnOk result (IsTrue D.tells → (state : State) → let f = form_at self.old in IsStateOf (with_aside self.old holder) (D.history d.old) state → IsSafe f (D.history d.old)
@@ -137,6 +139,8 @@ impl AllOpeners {
             → TurnLeads (record self.old { openers = before; aside = Some holder }) self.new (D.history d.old) (D.history d.new) holder.owner (law_turn turn)) }
         ensures full { IfOk result (λ turn. IsTrue D.tells → (before : Openers) (x : Opener) → ClaimStands self.old holder (seen (D.history d.old)) (D.size d.old) before x
             → FullAside (record self.old { openers = before; aside = Some holder }) holder (D.history d.old) (law_turn turn)) }
+        ensures stopped { OnErr result (IsTrue D.tells → (before : Openers) (x : Opener) → ClaimStands self.old holder (seen (D.history d.old)) (D.size d.old) before x
+            → StoppedAside (record self.old { openers = before; aside = Some holder }) holder (D.history d.old) (D.history d.new)) }
         ensures stops { IsTrue D.tells → (before : Openers) (x : Opener) (state : State) → let f = form_in before.header in
             ClaimStands self.old holder (seen (D.history d.old)) (D.size d.old) before x
             → IsStateOf (record self.old { openers = before; aside = Some holder }) (D.history d.old) state → IsSafe f (D.history d.old)
@@ -211,6 +215,7 @@ impl AllOpeners {
         ensures fresh { OnOk result (self.new.stale ≡ false) }
         ensures turned { IfOk result (λ turn. IsTrue D.tells → TurnLeads self.old self.new (D.history d.old) (D.history d.new) who (law_turn turn)) }
         ensures full { IfOk result (λ turn. IsTrue D.tells → FullOfTurn self.old (D.history d.old) who (law_turn turn)) }
+        ensures stopped { OnErr result (IsTrue D.tells → StopsRightly self.old (D.history d.old) (D.history d.new) who) }
         ensures stops { IsTrue D.tells → (state : State) → let f = form_at self.old in IsStateOf self.old (D.history d.old) state → IsSafe f (D.history d.old)
             → LeavesOnly (D.history d.old) (D.history d.new) (TurnMayLeave f state (law_opener who)) }
         ensures safe { OnOk result (IsTrue D.tells → (state : State) → let f = form_at self.old in IsStateOf self.old (D.history d.old) state → IsSafe f (D.history d.old)

@@ -1,5 +1,5 @@
 //! The first turn of a Start.
-ghost use Rattle.std.specs.Prelude.{◌≡◌, ◌≤◌, ◌<◌, ℕ, List, slice_set, IsTrue, IfOk, OnOk, Some, true, false};
+ghost use Rattle.std.specs.Prelude.{◌≡◌, ◌≤◌, ◌<◌, ℕ, List, slice_set, IsTrue, IfOk, OnOk, Some, true, false, OnErr};
 ghost use Rattle.tdb_disk.specs.Count.{HasCause};
 ghost use Rattle.tdb_disk.specs.History.{History, seen};
 ghost use Rattle.tdb_disk.specs.Stop.{LeavesOnly};
@@ -13,6 +13,7 @@ ghost use Rattle.tdb_world.specs.States.{IsStateOf};
 ghost use Rattle.tdb_steps.specs.Holdings.{table_of};
 ghost use Rattle.tdb_world.specs.Steps.{HasCommand, IsAmong, StartWaits, TurnLeads};
 ghost use Rattle.tdb_world.specs.Room.{FullOfTurn};
+ghost use Rattle.tdb_world.specs.Stopped.{StopsRightly};
 ghost use Rattle.tdb_world.specs.Stops.{IsSafe, TurnMayLeave};
 ghost use Rattle.tdb_txn_turns.specs.declared.starting.Starting.TheVariants as Starting;
 ghost use Rattle.tdb_txn_owner.specs.declared.stage.Stage.TheVariants as Stage;
@@ -76,6 +77,7 @@ impl AllOpeners {
         ensures turned { IfOk result (λ turn. IsTrue D.tells → TurnLeads self.old self.new (D.history d.old) (D.history d.new) who (law_turn turn)) }
         ensures full { IfOk result (λ turn. IsTrue D.tells → FullOfTurn self.old (D.history d.old) who (law_turn turn)) }
         ensures waits { IfOk result (λ turn. StartWaits self.old who (law_turn turn)) }
+        ensures stopped { OnErr result (IsTrue D.tells → StopsRightly self.old (D.history d.old) (D.history d.new) who) }
         ensures stops { IsTrue D.tells → (state : State) → let f = form_at self.old in IsStateOf self.old (D.history d.old) state → IsSafe f (D.history d.old)
             → LeavesOnly (D.history d.old) (D.history d.new) (TurnMayLeave f state (law_opener who)) }
         ensures safe { OnOk result (IsTrue D.tells → (state : State) → let f = form_at self.old in IsStateOf self.old (D.history d.old) state → IsSafe f (D.history d.old)

@@ -1,5 +1,5 @@
 //! One turn of an opener.
-ghost use Rattle.std.specs.Prelude.{◌≡◌, ◌≤◌, ℕ, IsTrue, IfOk, OnOk, false};
+ghost use Rattle.std.specs.Prelude.{◌≡◌, ◌≤◌, ℕ, IsTrue, IfOk, OnOk, OnErr, false};
 ghost use Rattle.tdb_disk.specs.Count.{HasCause};
 ghost use Rattle.tdb_disk.specs.History.{seen};
 ghost use Rattle.tdb_disk.specs.Stop.{LeavesOnly};
@@ -9,6 +9,7 @@ ghost use Rattle.tdb_world.specs.Whole.{form_at, WorldFits};
 ghost use Rattle.tdb_world.specs.States.{IsStateOf};
 ghost use Rattle.tdb_world.specs.Steps.{HasCommand, StartWaits, TurnLeads};
 ghost use Rattle.tdb_world.specs.Room.{FullOfTurn};
+ghost use Rattle.tdb_world.specs.Stopped.{StopsRightly};
 ghost use Rattle.tdb_world.specs.Stops.{IsChanging, IsSafe, TurnMayLeave};
 ghost use Rattle.tdb_world.specs.Prepared.{GoesAsPrepared};
 ghost use Rattle.tdb_world.specs.Syncs.{OnlyLooks, SyncsByStage};
@@ -23,7 +24,9 @@ impl AllOpeners {
     /// a check found a fault in the file, which no turn leaves. A Commit of a prepared transaction is never blocked,
     /// and is done after at most four turns of its opener. `Full` comes exactly where the image that the opener sees
     /// has no room, up to the limit, for what the command stores. The first turn of a Start is blocked by the one aside
-    /// where that holds the lock byte of transactions, and never wants memory there.
+    /// where that holds the lock byte of transactions, and never wants memory there. After `Io` outside a transaction at
+    /// most the chain of the command's key, the free list, their heads, the command's record and the sequence number
+    /// have changed.
     ///
     /// Cost: that of the command's turn, and a search in the lock table; nothing is passed over that doesn't belong to
     /// it. A turn of a Start, a Commit or a Prepare, or one that ends a transaction, syncs the disk as often as its
@@ -38,6 +41,7 @@ impl AllOpeners {
         ensures turned { IfOk result (λ turn. IsTrue D.tells → TurnLeads self.old self.new (D.history d.old) (D.history d.new) who (law_turn turn)) }
         ensures full { IfOk result (λ turn. IsTrue D.tells → FullOfTurn self.old (D.history d.old) who (law_turn turn)) }
         ensures waits { IfOk result (λ turn. StartWaits self.old who (law_turn turn)) }
+        ensures stopped { OnErr result (IsTrue D.tells → StopsRightly self.old (D.history d.old) (D.history d.new) who) }
         ensures prepared { IfOk result (λ turn. IsTrue D.tells → GoesAsPrepared self.old (D.history d.old) (law_opener who) (law_turn turn)) }
         ensures stops { IsTrue D.tells → (state : State) → let f = form_at self.old in IsStateOf self.old (D.history d.old) state → IsSafe f (D.history d.old) → (IsChanging f state (law_opener who) → ⊥)
             → LeavesOnly (D.history d.old) (D.history d.new) (TurnMayLeave f state (law_opener who)) }

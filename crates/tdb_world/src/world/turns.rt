@@ -1,7 +1,8 @@
 //! One turn of an opener, and the undo of a gate that a dead one left open, in a world that has its disk.
-ghost use Rattle.std.specs.Prelude.{◌≡◌, ◌≤◌, IsTrue, IfOk, is_err, true, false};
+ghost use Rattle.std.specs.Prelude.{◌≡◌, ◌≤◌, IsTrue, IfOk, OnErr, is_err, true, false};
 ghost use Rattle.tdb_disk.specs.Count.{HasCause};
 ghost use Rattle.tdb_world.specs.Steps.{HasCommand};
+ghost use Rattle.tdb_world.specs.Stopped.{StopsRightly};
 ghost use Rattle.tdb_world.specs.OverFiles.Turns.{CountsFaults, LooksUnsynced, StopsInTurn, StopsInUndo, TookTurn, WasUndone};
 
 use crate::Undone;
@@ -21,6 +22,12 @@ impl<D: Disk> World<D> {
     /// a new undo area has no room in the file. The first turn of a Start is `Blocked` by the opener that holds the lock
     /// byte of transactions, and never ends with `Memory` there.
     ///
+    /// After `Io` outside a transaction the file isn't shorter, and at most the chain of the command's key, the free
+    /// list, their heads, the command's record and the sequence number have changed: no other byte of the header, and
+    /// none of the undo area. A wipe, and a command on a cursor that purges a record, leave what these may. Of an
+    /// opener that has a transaction, each stop in the turn and behind it leaves what its stage says: a file that opens
+    /// to the map before, or from the turn on that shuts the gate of a Commit to that of the transaction.
+    ///
     /// Cost: that of the command's turn, and a search in the lock table; nothing is passed over that doesn't belong to
     /// it. A turn of a Start, a Commit or a Prepare, or one that ends a transaction, syncs the disk as often as its
     /// stage says, which makes nine times at most for a Commit; one that only looks at the file never does.
@@ -30,6 +37,7 @@ impl<D: Disk> World<D> {
         requires fresh { self.old.world.stale ≡ false }
         requires unspent { self.old.spent ≡ false }
         ensures turned { IfOk result (λ turn. TookTurn D.tells self.old self.new who turn) }
+        ensures stopped { OnErr result (IsTrue D.tells → StopsRightly self.old.world self.old.history self.new.history who) }
         ensures stops { IsTrue D.tells → StopsInTurn self.old self.new who }
         ensures no_sync { LooksUnsynced self.old self.new who }
         ensures faults { CountsFaults D.tells self.old self.new result }

@@ -1,6 +1,6 @@
 -- The one aside takes its turn.
 use Rattle.std.proofs.Common.{◌≡◌, Some, IsTrue, IfOk, sym, ◌∙◌, ap, subst}
-use Rattle.std.proofs.lemmas.Result.{IfOk-weaker, on_ok_weaker}
+use Rattle.std.proofs.lemmas.Result.{IfOk-weaker, on_err_weaker, on_ok_weaker}
 use Rattle.tdb_disk.specs.Stop.{LeavesOnly}
 use Rattle.tdb_locks.specs.declared.turn.Turn.TheVariants as Turn
 use Rattle.tdb_commands.specs.InLaw.{law_opener, law_turn}
@@ -8,6 +8,8 @@ use Rattle.tdb_txn_owner.specs.Holders.{HolderState}
 use Rattle.tdb_world.specs.contracts.all_openers.AllOpeners.{the_view}
 use Rattle.tdb_world.specs.Room.{FullAside}
 use Rattle.tdb_world.specs.Room.EndsFullRightly.{full_aside}
+use Rattle.tdb_world.specs.Stopped.{StoppedAside}
+use Rattle.tdb_world.specs.Stopped.StoppedTurn.{stopped_aside}
 use Rattle.tdb_world.specs.Stops.{IsSafe, TurnMayLeave}
 use Rattle.tdb_world.specs.Whole.{form_at, Whole}
 use Rattle.tdb_world.specs.States.{IsStateOf}
@@ -69,3 +71,12 @@ returns-clause-full g c =
     IfOk-weaker c.step_aside.result _ _
     (λ turn full told state S. full_aside holder (aside g c) (sym (owner g c)) (subst (λ w. FullAside w holder h (law_turn turn)) (before g c) (full told)))
     c.step_aside.ensures.full
+
+pub returns-clause-stopped : goal.returns-clause-stopped
+returns-clause-stopped g c =
+    let h = g.D.Disk.history c.args.d.now in
+    let later = g.D.Disk.history c.step_aside.new.d in
+    let holder = c.in-Some.holder in
+    on_err_weaker c.step_aside.result
+    (λ stopped told state S. stopped_aside holder (aside g c) (sym (owner g c)) (subst (λ w. StoppedAside w holder h later) (before g c) (stopped told)))
+    c.step_aside.ensures.stopped

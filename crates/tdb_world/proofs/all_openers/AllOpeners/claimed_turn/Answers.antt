@@ -1,5 +1,6 @@
 -- The turn for which the lock of records was taken, and what it leaves.
-use Rattle.std.proofs.Common.{◌≡◌, ◌≤◌, ℕ, false, List, Option, None, Some, length, IsTrue, refl, sym, ◌∙◌, ap, subst, arith}
+use Rattle.std.proofs.Common.{◌≡◌, ◌≤◌, ℕ, false, List, Option, None, Some, length, IsTrue, refl, sym, ◌∙◌, ap, subst, inl, arith}
+use Rattle.std.proofs.lemmas.Result.{err_from_is_err_and}
 use Rattle.tdb_disk.specs.History.{seen}
 use Rattle.tdb_locks.specs.declared.kind.Kind.TheVariants.{Write}
 use Rattle.tdb_space.specs.Form.{form_in}
@@ -25,6 +26,7 @@ use Rattle.tdb_world.specs.Whole.{Whole, WorldFits}
 use Rattle.tdb_world.proofs.ClaimUsed.{number_now, stood_now, used_fits, used_leads, C}
 use Rattle.tdb_world.proofs.Fullness.{used_full}
 use Rattle.tdb_world.proofs.Settled.{settled_world}
+use Rattle.tdb_world.proofs.Stopped.{used_stopped}
 use Rattle.tdb_world.proofs.Stopping.{still_leaves, used_safe, used_stops}
 use Rattle.tdb_world.proofs.all_openers.AllOpeners.claimed_turn.Given
 use Rattle.tdb_world.proofs.all_openers.AllOpeners.claimed_turn.Goals as goal
@@ -145,6 +147,17 @@ pub returns-in_err-moved-clause-stops : goal.returns-in_err-moved-clause-stops
 returns-in_err-moved-clause-stops g c = λ told before x state S is safe.
     used_stops c.args.self.now c.args.holder (seen (g.D.Disk.history c.args.d.now)) (g.D.Disk.size c.args.d.now) before x S c.requires.fresh c.requires.busy
     (g.D.Disk.history c.args.d.now) (g.D.Disk.history c.keep_number.new.d) c.keep_number.ensures.history state is safe (g.D.Disk.history c.turn.new.d) (c.turn.ensures.stops told)
+
+-- the number couldn't be read, and nothing was changed; or the turn failed
+pub returns-in-Err-clause-stopped : goal.returns-in-Err-clause-stopped
+returns-in-Err-clause-stopped g c = λ told before x S. inl c.keep_number.ensures.history
+
+pub returns-in_err-moved-clause-stopped : goal.returns-in_err-moved-clause-stopped
+returns-in_err-moved-clause-stopped g c =
+    let q = err_from_is_err_and c.from_residual.result c.from_residual.ensures.1 in
+    rw (q.1) (λ told before x S.
+    used_stopped (record c.args.self.now { openers = before; aside = Some c.args.holder }) c.args.holder (g.D.Disk.history c.args.d.now) (g.D.Disk.history c.keep_number.new.d) (g.D.Disk.history c.turn.new.d)
+    c.keep_number.ensures.history (c.turn.ensures.stops told))
 
 pub returns-clause-stops : goal.returns-clause-stops
 returns-clause-stops g c = λ told before x state S is safe.

@@ -14,13 +14,15 @@ use Rattle.tdb_world.specs.Steps.HasCommand.{by_job}
 use Rattle.tdb_world.specs.Room.{FullOfTurn}
 use Rattle.tdb_world.specs.Room.EndsFullRightly.{full_in_file, full_never}
 use Rattle.tdb_world.specs.Room.StoresNothing.{is_shut_out}
+use Rattle.tdb_world.specs.Stopped.StoppedTurn.{stopped_in_file}
 use Rattle.tdb_world.specs.Stops.{IsChanging, IsSafe}
 use Rattle.tdb_world.specs.Whole.{form_at, WorldFits}
 use Rattle.tdb_txn_turns.proofs.Room.{never}
 use Rattle.tdb_world.proofs.OtherTurns.{OnlyOne, with_openers, open_fits, open_leads, put_openers, same_fits, shut_leads, shut_not_full, still_among}
 use Rattle.tdb_world.proofs.Spared.{not_midway}
 use Rattle.tdb_world.proofs.Outside.{file_stands}
-use Rattle.std.proofs.lemmas.Result.{IfOk-weaker}
+use Rattle.std.proofs.lemmas.Result.{IfOk-weaker, on_err_weaker}
+use Rattle.tdb_world.proofs.Stopped.{job_front}
 use Rattle.tdb_world.proofs.Stopping.{still_leaves}
 use Rattle.tdb_world.proofs.all_openers.AllOpeners.other_turn.Given
 use Rattle.tdb_world.proofs.all_openers.AllOpeners.other_turn.Goals as goal
@@ -190,3 +192,16 @@ pub returns-in-None-clause-no_sync : goal.returns-in-None-clause-no_sync
 returns-in-None-clause-no_sync g c state S never =
     let B = c.requires.busy in
     c.turn_in_file.ensures.no_sync B.0 B.1 B.2 (not_midway c.args.self.now c.args.who B.0 B.1 (g.D.Disk.history c.args.d.now) state c.requires.named B.2 c.requires.among c.requires.begun S never)
+
+pub returns-in-None-clause-stopped : goal.returns-in-None-clause-stopped
+returns-in-None-clause-stopped g c =
+    let old = c.args.self.now in
+    let h = g.D.Disk.history c.args.d.now in
+    let B = c.requires.busy in
+    on_err_weaker c.turn_in_file.result
+    (λ stopped told state S.
+    (let F = file_stands old h state c.requires.fresh c.in-None.ensures.none S in
+    let left = stopped told F B.0 B.1 B.2 in
+    stopped_in_file B.0 B.1 (record { busy = B.2; among = c.requires.among; begun = c.requires.begun; open_to = c.in-None.ensures.none })
+    (record { front = λ other. job_front (form_at old) (seen h) (seen (g.D.Disk.history c.turn_in_file.new.d)) B.0.walk.cursor B.1.job B.1.steps _ other left; left = left })))
+    c.turn_in_file.ensures.stopped

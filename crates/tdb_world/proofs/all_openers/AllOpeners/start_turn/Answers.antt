@@ -2,7 +2,7 @@
 use Rattle.std.proofs.Common.{◌≡◌, ◌≤◌, ℕ, ◌+◌, [], false, slice_set, Option, Some, None, is_some, refl, sym, ◌∙◌, ap, subst, arith}
 use Rattle.std.proofs.Common.{Ok, Err}
 use Rattle.std.specs.Prelude.{Result, IfOk, IsTrue}
-use Rattle.std.proofs.lemmas.Result.{IfOk-weaker, on_ok_weaker}
+use Rattle.std.proofs.lemmas.Result.{IfOk-weaker, on_err_weaker, on_ok_weaker}
 use Rattle.tdb_disk.specs.History.{seen, History}
 use Rattle.tdb_disk.specs.Stop.{LeavesOnly}
 use Rattle.tdb_law.specs.World.{State}
@@ -15,11 +15,13 @@ use Rattle.tdb_world.specs.States.{IsStateOf}
 use Rattle.tdb_world.specs.Steps.{HasCommand, TurnLeads, with_aside}
 use Rattle.tdb_world.specs.Room.EndsFullRightly.{full_never}
 use Rattle.tdb_world.specs.Room.StoresNothing.{has_start}
+use Rattle.tdb_world.specs.Stopped.StoppedTurn.{stopped_at_start}
 use Rattle.tdb_world.specs.Stops.{IsSafe, TurnMayLeave}
 use Rattle.tdb_world.specs.Whole.{form_at, Whole, WorldFits}
 use Rattle.tdb_txn_turns.proofs.Room.{never}
 use Rattle.tdb_world.proofs.Fullness.{start_full}
 use Rattle.tdb_world.proofs.OwnStart.{aside_fits, goes_aside}
+use Rattle.tdb_world.proofs.Stopped.{start_stopped}
 use Rattle.tdb_world.proofs.Stopping.{still_leaves}
 use Rattle.tdb_world.proofs.all_openers.AllOpeners.start_turn.Given
 use Rattle.tdb_world.proofs.all_openers.AllOpeners.start_turn.Goals as goal
@@ -142,3 +144,12 @@ pub returns-clause-waits : goal.returns-clause-waits
 returns-clause-waits g c =
     let nobody = ap (λ (z : Whole). z.aside) (sym c.self.view_is) ∙ none_aside c.self.inside.aside (sym c.is_some.ensures ∙ c.if-is_some.false) in
     any_ok c.step_aside.result _ (λ turn begun among h there some. absurd (cc (sym nobody ∙ there)))
+
+pub returns-clause-stopped : goal.returns-clause-stopped
+returns-clause-stopped g c =
+    let holder = c.start-holder.result in
+    on_err_weaker c.step_aside.result
+    (λ stopped told state S. stopped_at_start c.requires.among c.requires.begun
+    (start_stopped (with_aside c.drop_start.new.self holder) (g.D.Disk.history c.args.d.now) (g.D.Disk.history c.step_aside.new.d) holder Starts.Begun (ap (λ (z : HolderState). z.stage) c.start-holder.ensures) refl
+    state (aside_state g c state S) (stopped told)))
+    c.step_aside.ensures.stopped

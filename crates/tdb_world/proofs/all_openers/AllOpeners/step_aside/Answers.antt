@@ -1,6 +1,6 @@
 -- The turn for which the lock of records is taken; or it is blocked by another's lock; or memory was wanting for it.
 use Rattle.std.proofs.Common.{◌≡◌, ℕ, List, Some, None, refl, sym, ◌∙◌, ap, subst}
-use Rattle.std.proofs.lemmas.Result.{IfOk-weaker, on_ok_weaker}
+use Rattle.std.proofs.lemmas.Result.{IfOk-weaker, on_err_weaker, on_ok_weaker}
 use Rattle.tdb_disk.specs.History.{seen}
 use Rattle.tdb_disk.specs.Stop.{LeavesOnly}
 use Rattle.tdb_commands.specs.InLaw.{law_opener, law_turn}
@@ -16,6 +16,7 @@ use Rattle.tdb_world.specs.Claims.{Claimed, ClaimStands, IsBarred}
 use Rattle.tdb_world.specs.States.{IsStateOf}
 use Rattle.tdb_world.specs.Steps.{with_aside, TurnLeads}
 use Rattle.tdb_world.specs.Room.{FullAside}
+use Rattle.tdb_world.specs.Stopped.{StoppedAside}
 use Rattle.tdb_world.specs.Stops.{IsSafe, TurnMayLeave}
 use Rattle.tdb_world.specs.Whole.{form_at, options_at, Whole, WorldFits}
 use Rattle.tdb_world.proofs.Fitting.{fits_starved}
@@ -166,3 +167,10 @@ returns-in-Starved-clause-full g c = λ told.
     let history = g.D.Disk.history c.args.d.now in
     let wants = c.in-Starved.ensures.starved refl in
     subst (FullAside w c.args.holder history) (sym (ap law_turn c.starve.ensures.turn)) (starved_full w c.args.holder history wants.0 (sym c.wants-wants.ensures.stage ∙ wants.1))
+
+pub returns-in-Taken-clause-stopped : goal.returns-in-Taken-clause-stopped
+returns-in-Taken-clause-stopped g c =
+    on_err_weaker c.claimed_turn.result
+    (λ stopped told. subst (λ w. StoppedAside (with_aside w c.args.holder) c.args.holder (g.D.Disk.history c.args.d.now) (g.D.Disk.history c.claimed_turn.new.d)) c.self.view_is
+    (stopped told c.self.inside.openers (F g c).aside.opener (stands g c)))
+    c.claimed_turn.ensures.stopped

@@ -1,12 +1,14 @@
 -- The turn is the opener's in the view of the file.
 use Rattle.std.proofs.Common.{◌≡◌, ℕ, List, sym, ◌∙◌, ap, subst}
-use Rattle.std.specs.Prelude.{Result, IfOk, IsTrue}
+use Rattle.std.specs.Prelude.{Result, IfOk, IsTrue, OnErr}
 use Rattle.tdb_disk.specs.History.{seen}
 use Rattle.tdb_space.specs.Form.{form_in}
 use Rattle.tdb_locks.specs.declared.turn.Turn.{Turn}
 use Rattle.tdb_law.specs.Turned.{Turned}
 use Rattle.tdb_steps.specs.Room.{FullAtTake}
 use Rattle.tdb_commands.specs.InLaw.{law_opener, law_turn}
+use Rattle.tdb_openers.specs.Laws.{other_hands}
+use Rattle.tdb_openers.specs.Stopped.{JobStopped}
 use Rattle.tdb_openers.specs.Worlds.{World, law_of_task, state_in, BytesStand, IsBusy}
 use Rattle.tdb_openers.specs.declared.job.Task.{Task}
 use Rattle.tdb_openers.specs.declared.opener.Opener.{Opener}
@@ -37,3 +39,17 @@ returns-clause-full g c =
     let a = ap (λ d. seen (g.D.Disk.history d)) c.new-view.ensures.disk in
     subst (λ z. Fulls c.turn.result (IsTrue g.D.Disk.tells) z (seen (g.D.Disk.history c.args.d.now)) c.args.who) is
     (subst (λ y. Fulls c.turn.result (IsTrue g.D.Disk.tells) c.self.inside.openers y c.args.who) a c.turn.ensures.full)
+
+abbrev Stopped : {E : Type 0} → Result Turn E → Type 0 → World → List ℕ → List ℕ → ℕ → Type 0
+Stopped r tells z a b who = OnErr r (tells → BytesStand z a → (x : Opener) (t : Task) → IsBusy z who x t → JobStopped (form_in z.header) a b x.walk.cursor t.job t.steps (other_hands z.openers (law_opener who)))
+
+pub returns-clause-stopped : goal.returns-clause-stopped
+returns-clause-stopped g c =
+    let is = ap (λ (z : Whole). z.openers) c.self.view_is in
+    let under = c.turn.ensures.wrote.under in
+    let kept : c.turn.new.s.disk.ghost_name ≡ c.new-view.result.disk.ghost_name = cc in
+    let a = ap (λ d. seen (g.D.Disk.history d)) c.new-view.ensures.disk in
+    let b = ap (λ d. seen (g.D.Disk.history d)) (sym (c.d-1.given.1 (sym c.new-view.ensures.same_reference ∙ sym kept))) in
+    subst (λ z. Stopped c.turn.result (IsTrue g.D.Disk.tells) z (seen (g.D.Disk.history c.args.d.now)) (seen (g.D.Disk.history c.d-1.given.0)) c.args.who) is
+    (subst (λ y. Stopped c.turn.result (IsTrue g.D.Disk.tells) c.self.inside.openers y (seen (g.D.Disk.history c.d-1.given.0)) c.args.who) a
+    (subst (λ y. Stopped c.turn.result (IsTrue g.D.Disk.tells) c.self.inside.openers (seen (g.D.Disk.history c.new-view.result.disk.now)) y c.args.who) b c.turn.ensures.stopped))

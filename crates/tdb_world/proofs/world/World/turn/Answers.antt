@@ -17,6 +17,9 @@ returns-clause-turned g c =
     let idle = idle_so g.D.Disk.tells _ _ _ _ _ _ _ _ c.args.who c.requires.named (c.self.invariant spent) busy c.turn-turned.result e.fits e.turned in
     rw (← c.self.view_is) (took_turn _ _ _ _ _ e.turned e.full e.waits e.prepared e.safe e.syncs e.busy idle e.fresh e.longer e.header e.options)
 
+pub returns-clause-stopped : goal.returns-clause-stopped
+returns-clause-stopped g c = rw (← c.self.view_is) c.turn-turned.ensures.stopped
+
 pub returns-clause-stops : goal.returns-clause-stops
 returns-clause-stops g c = rw (← c.self.view_is) (λ told state S. c.turn-turned.ensures.stops told state S.has S.safe S.calm)
 
