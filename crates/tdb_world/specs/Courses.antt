@@ -1,6 +1,7 @@
 -- Plays in a world, the report of them, and what stops leave.
 pub mod Playable
 pub mod Calls
+pub mod Stopped
 pub mod Led
 pub mod Stops
 pub mod Changes

@@ -19,6 +19,7 @@ use Rattle.tdb_world.specs.Courses.Led.{Lengths, moment, Led}
 use Rattle.tdb_world.specs.Courses.Told.{PlayLed, GivesLine, IsAnswered, Gifted}
 use Rattle.tdb_world.specs.Courses.Calls.{TellsNoCall}
 use Rattle.tdb_world.specs.Courses.Calls.Calls.{calls_nothing}
+use Rattle.tdb_world.specs.Courses.Stopped.StoppedCall.{stopped_still}
 use Rattle.tdb_world.proofs.Courses.Calling.{answer_quiet, told_none, told_one}
 use Rattle.tdb_world.proofs.Courses.Leading.{led_whole, led_fault}
 
@@ -35,7 +36,7 @@ answered tells w h size faults play line old new W A short (Ok v) told kept memo
   fits = W;
   quiet = refl;
   told = λ tell state is. (state, is, gives_answer (law_line line) refl refl (A h state is));
-  calls = λ tell state is. told_one _ _ _ _ w h size (record { header = refl; options = refl }) short (calls_nothing play (answer_quiet state play line (A h state is), tt) refl (λ s S. (s, S, gives_answer (law_line line) refl refl (A h s S)))) (refl, refl, refl);
+  calls = λ tell state is. told_one _ _ _ _ w h size (record { header = refl; options = refl }) short (calls_nothing play (answer_quiet state play line (A h state is), tt) refl (λ s S. (s, S, gives_answer (law_line line) refl refl (A h s S)))) (refl, refl, refl) (stopped_still refl);
   rose = λ tell state is. tt;
 }
 answered tells w h size faults play line old new W A short (Err Memory) told kept memory = record {
@@ -84,7 +85,7 @@ line_led tells w v h size faults play line old new header options W gives quiet 
   fits = W;
   quiet = refl;
   told = λ told state is. gives h state is;
-  calls = λ told state is. told_one _ _ _ _ v h size (record { header = header; options = options }) short (calls_nothing play (quiet h state is, tt) refl (gives h)) (refl, refl, refl);
+  calls = λ told state is. told_one _ _ _ _ v h size (record { header = header; options = options }) short (calls_nothing play (quiet h state is, tt) refl (gives h)) (refl, refl, refl) (stopped_still refl);
   rose = λ told state is. tt;
 }
 
@@ -105,7 +106,7 @@ gift_led tells w v h size faults who c lines W (Ok u) G kept memory = record {
   fits = G.fits (seen h) size W;
   quiet = refl;
   told = λ told state is. (let J = G.given h state is in (J.0, J.1, (refl, J.2)));
-  calls = λ told state is. told_one _ _ _ _ v h size (record { header = G.header; options = G.options }) refl (calls_nothing (LawPlay.Give (law_opener who) c) tt refl (λ s S. (let J = G.given h s S in (J.0, J.1, gives_command (law_opener who) c refl refl J.2)))) (refl, refl, refl);
+  calls = λ told state is. told_one _ _ _ _ v h size (record { header = G.header; options = G.options }) refl (calls_nothing (LawPlay.Give (law_opener who) c) tt refl (λ s S. (let J = G.given h s S in (J.0, J.1, gives_command (law_opener who) c refl refl J.2)))) (refl, refl, refl) (stopped_still refl);
   rose = λ told state is. tt;
 }
 gift_led tells w v h size faults who c lines W (Err Memory) G kept memory = record {

@@ -16,6 +16,8 @@ use Rattle.tdb_openers.specs.declared.fault.RunFault.{RunFault}
 use Rattle.tdb_openers.specs.declared.fault.RunFault.TheVariants.{Io, Memory}
 use Rattle.tdb_world.specs.Whole.{Whole}
 use Rattle.tdb_world.specs.Courses.Calls.{Calls, StaysFormed, TellNoCall, TellsNoCall}
+use Rattle.tdb_world.specs.Courses.Stopped.{StoppedCall}
+use Rattle.tdb_world.specs.Courses.Stopped.StoppedCall.{stopped_still}
 use Rattle.tdb_world.specs.Courses.Led.{CallsTell, Lengths, Moment, ToldCalls}
 
 -- the line of a growth tells no call
@@ -97,23 +99,24 @@ unless (Err Io) P p = tt
 
 -- no call was made, or none that lines tell before the disk failed
 pub told_none : {V : Type 0} (old new : Moment) (r : Result V RunFault) → new.world ≡ old.world → new.history ≡ old.history → new.size ≡ old.size → ToldCalls old new r []
-told_none old new r world history size = record { count = 0; world = old.world; history = old.history; size = old.size; calls = (refl, refl, refl, refl); last = unless r _ (world, history, size) }
+told_none old new r world history size =
+    record { count = 0; world = old.world; history = old.history; size = old.size; calls = (refl, refl, refl, refl); last = unless r _ (world, history, size); stopped = stopped_still history }
 
-pub told_failed : {V : Type 0} (old new : Moment) → ToldCalls {V = V} old new (Err Io) []
-told_failed old new = record { count = 0; world = old.world; history = old.history; size = old.size; calls = (refl, refl, refl, refl); last = tt }
+pub told_failed : {V : Type 0} (old new : Moment) → StoppedCall old.world old.history new.history → ToldCalls {V = V} old new (Err Io) []
+told_failed old new S = record { count = 0; world = old.world; history = old.history; size = old.size; calls = (refl, refl, refl, refl); last = tt; stopped = S }
 
 -- one call was made
 pub told_one : {V : Type 0} (old new : Moment) (r : Result V RunFault) (lines : List Line) (v : Whole) (g : History) (to : ℕ) → StaysFormed old.world v → Lengths old.size lines to → Calls old.world old.history old.size lines v g
-    → UnlessIo r ((new.world ≡ v) × (new.history ≡ g) × (new.size ≡ to)) → ToldCalls old new r lines
-told_one old new r lines v g to F L C last = record { count = 1; world = v; history = g; size = to; calls = (v, g, to, lines, [], sym (append-nil lines), F, L, C, (refl, refl, refl, refl)); last = last }
+    → UnlessIo r ((new.world ≡ v) × (new.history ≡ g) × (new.size ≡ to)) → StoppedCall v g new.history → ToldCalls old new r lines
+told_one old new r lines v g to F L C last S = record { count = 1; world = v; history = g; size = to; calls = (v, g, to, lines, [], sym (append-nil lines), F, L, C, (refl, refl, refl, refl)); last = last; stopped = S }
 
 -- the same, with another answer
 pub told_whole : {V W : Type 0} (old new : Moment) (v : V) (w : W) (lines : List Line) → ToldCalls old new (Ok v) lines → ToldCalls old new (Ok w) lines
-told_whole old new v w lines A = record { count = A.count; world = A.world; history = A.history; size = A.size; calls = A.calls; last = A.last }
+told_whole old new v w lines A = record { count = A.count; world = A.world; history = A.history; size = A.size; calls = A.calls; last = A.last; stopped = A.stopped }
 
 pub told_fault : {V W : Type 0} (old new : Moment) (e : RunFault) (lines : List Line) → ToldCalls {V = V} old new (Err e) lines → ToldCalls {V = W} old new (Err e) lines
-told_fault old new Memory lines A = record { count = A.count; world = A.world; history = A.history; size = A.size; calls = A.calls; last = A.last }
-told_fault old new Io lines A = record { count = A.count; world = A.world; history = A.history; size = A.size; calls = A.calls; last = tt }
+told_fault old new Memory lines A = record { count = A.count; world = A.world; history = A.history; size = A.size; calls = A.calls; last = A.last; stopped = A.stopped }
+told_fault old new Io lines A = record { count = A.count; world = A.world; history = A.history; size = A.size; calls = A.calls; last = tt; stopped = A.stopped }
 
 -- and one part after another
 pub told_join : {U V : Type 0} (old mid new : Moment) (u : U) (r : Result V RunFault) (front rest : List Line) → ToldCalls old mid (Ok u) front → ToldCalls mid new r rest → ToldCalls old new r (front ++ rest)
@@ -122,4 +125,4 @@ told_join old mid new u r front rest A B =
     subst (λ k. CallsTell B.count A.world A.history k rest B.world B.history B.size) A.last.2
     (subst (λ k. CallsTell B.count A.world k mid.size rest B.world B.history B.size) A.last.1 (subst (λ z. CallsTell B.count z mid.history mid.size rest B.world B.history B.size) A.last.0 B.calls)) in
     let J = calls_join A.count B.count old.world A.world B.world old.history A.history B.history old.size A.size B.size front rest A.calls behind in
-    record { count = J.0; world = B.world; history = B.history; size = B.size; calls = J.1; last = B.last }
+    record { count = J.0; world = B.world; history = B.history; size = B.size; calls = J.1; last = B.last; stopped = B.stopped }

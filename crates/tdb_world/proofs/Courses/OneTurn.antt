@@ -36,7 +36,9 @@ use Rattle.tdb_world.specs.Courses.Stops.{ToldWhereTaken}
 use Rattle.tdb_world.specs.Courses.Turns.{IsToldOf, Never, TakesOrClears}
 use Rattle.tdb_world.specs.Room.{FullOfTurn}
 use Rattle.tdb_world.specs.Courses.Calls.{StaysFormed}
+use Rattle.tdb_world.specs.Courses.Stopped.{StoppedCall}
 use Rattle.tdb_world.specs.Courses.Calls.Calls.{calls_turn, calls_undo}
+use Rattle.tdb_world.specs.Courses.Stopped.StoppedCall.{stopped_still}
 use Rattle.tdb_world.proofs.Courses.Calling.{growth_quiet, told_failed, told_none, told_one}
 use Rattle.tdb_world.proofs.Courses.Leading.{growth_grows, led_join, led_fault}
 use Rattle.tdb_world.proofs.Courses.Courses.{clear_takes, clear_last}
@@ -92,15 +94,15 @@ nothing_led tells w h g size longer before now old new Io All Last same equal li
   fits = tt;
   quiet = tt;
   told = λ told state is. (state, last state);
-  calls = λ told state is. told_failed _ _;
+  calls = λ told state is. told_failed _ _ (stopped_still same);
   rose = λ told state is. cause.failed refl;
 }
 
 -- where a call of the disk failed in an undo or in a turn
 pub failed_led : {V : Type 0} (tells : Bool) (w v : Whole) (h g : History) (size longer before now : ℕ) (old new : List Line) (All : State → V → List LawLine → State → Type 0) (Part Last : State → List LawLine → State → Type 0)
-    → before ≤ now → new ≡ old → (IsTrue tells → (state : State) → IsStateOf w h state → Rose before now) → ((state : State) → Last state [] state)
+    → before ≤ now → new ≡ old → (IsTrue tells → (state : State) → IsStateOf w h state → StoppedCall w h g) → (IsTrue tells → (state : State) → IsStateOf w h state → Rose before now) → ((state : State) → Last state [] state)
     → Led {V = V} tells (moment w h size before old) (moment v g longer now new) (Err Io) All Part Last
-failed_led tells w v h g size longer before now old new All Part Last rises lines rose last = record {
+failed_led tells w v h g size longer before now old new All Part Last rises lines stopped rose last = record {
   header = tt;
   options = tt;
   rises = rises;
@@ -110,7 +112,7 @@ failed_led tells w v h g size longer before now old new All Part Last rises line
   fits = tt;
   quiet = tt;
   told = λ told state is. (state, last state);
-  calls = λ told state is. told_failed _ _;
+  calls = λ told state is. told_failed _ _ (stopped told state is);
   rose = rose;
 }
 
@@ -130,7 +132,7 @@ undone_led answer tells w v h g size shorter before now bytes to old new world l
   told = λ told state is. (let J = undoes told state is in (J.0, J.1, clears_gate bytes to refl J.2));
   calls = λ told state is.
       told_one _ _ _ _ v g shorter (record { header = ap (λ (z : Whole). z.openers.header) world; options = ap (λ (z : Whole). z.openers.options) world })
-      (let e = length in (omega (arith, low, e), sym length)) (calls_undo bytes to refl (undoes told)) (refl, refl, refl);
+      (let e = length in (omega (arith, low, e), sym length)) (calls_undo bytes to refl (undoes told)) (refl, refl, refl) (stopped_still refl);
   rose = λ told state is. tt;
 }
 
@@ -180,16 +182,16 @@ module _ (tells : Bool) (w v : Whole) (h g : History) (from before who : ℕ) (c
     fits = W;
     quiet = quiet;
     told = takes (growth from to) (growth_grows from to longer).0;
-    calls = λ told state is. told_one _ _ _ _ v g to formed (growth_grows from to longer).1 (calls_turn who command turn (growth from to) refl (growth_quiet from to) has (sized told) (turned told) (full told)) (refl, refl, refl);
+    calls = λ told state is. told_one _ _ _ _ v g to formed (growth_grows from to longer).1 (calls_turn who command turn (growth from to) refl (growth_quiet from to) has (sized told) (turned told) (full told)) (refl, refl, refl) (stopped_still refl);
     rose = λ told state is. tt;
   }
 
   -- and where the length can't be had after it
-  pub took_io : (now longer : ℕ) (z : History) (Part : State → List LawLine → State → Type 0) → before ≤ now → new ≡ old ++ Lines.Took who command turn ∷ [] → (IsTrue tells → (state : State) → IsStateOf w h state → Rose before now)
+  pub took_io : (now longer : ℕ) (z : History) → z ≡ g → (Part : State → List LawLine → State → Type 0) → before ≤ now → new ≡ old ++ Lines.Took who command turn ∷ [] → (IsTrue tells → (state : State) → IsStateOf w h state → Rose before now)
       → Led {V = Bool} tells (moment w h from before old) (moment v z longer now new) (Err Io)
       (λ state more lines after. IsToldOf state (law_opener who) (law_command command) → TakesOne (form_at w) state (law_opener who) more lines after) Part
       (λ state lines after. IsToldOf state (law_opener who) (law_command command) → TakesLast (form_at w) state (law_opener who) lines after)
-  took_io now longer z Part rises lines rose = record {
+  took_io now longer z same Part rises lines rose = record {
     header = tt;
     options = tt;
     rises = rises;
@@ -199,7 +201,7 @@ module _ (tells : Bool) (w v : Whole) (h g : History) (from before who : ℕ) (c
     fits = tt;
     quiet = tt;
     told = λ told state is. (let T = takes [] (grows_not refl) told state is in (T.0, λ mine. inr (is_step turn, T.2 mine)));
-    calls = λ told state is. told_one _ _ _ _ v g from formed refl (calls_turn who command turn [] refl tt has (sized told) (turned told) (full told)) tt;
+    calls = λ told state is. told_one _ _ _ _ v g from formed refl (calls_turn who command turn [] refl tt has (sized told) (turned told) (full told)) tt (stopped_still same);
     rose = rose;
   }
 

@@ -13,6 +13,7 @@ use Rattle.tdb_openers.specs.declared.fault.RunFault.TheVariants.{Io, Memory}
 use Rattle.tdb_world.specs.Whole.{Whole, WorldFits}
 use Rattle.tdb_world.specs.States.{IsStateOf}
 use Rattle.tdb_world.specs.Courses.Calls.{Calls, StaysFormed}
+use Rattle.tdb_world.specs.Courses.Stopped.{StoppedCall}
 
 -- A moment of a play: the world, the history and the length of its file, the count of faults of the disk, and the lines
 -- of the report.
@@ -54,7 +55,8 @@ CallsTell (suc n) w h size lines v g to =
     (u : Whole) × (k : History) × (next : ℕ) × (front : List Line) × (rest : List Line) × (lines ≡ front ++ rest) × StaysFormed w u × Lengths size front next
     × Calls w h size front u k × CallsTell n u k next rest v g to
 
--- Lines tell the calls that led from one moment to another; where the disk failed, those in front of the failed one.
+-- Lines tell the calls that led from one moment to another; where the disk failed, those in front of the failed one,
+-- which then left the file as it is.
 pub record ToldCalls {V : Type 0} (old new : Moment) (answer : Result V RunFault) (lines : List Line) : Type 0 where
   pub count : ℕ
   pub world : Whole
@@ -62,6 +64,7 @@ pub record ToldCalls {V : Type 0} (old new : Moment) (answer : Result V RunFault
   pub size : ℕ
   pub calls : CallsTell count old.world old.history old.size lines world history size
   pub last : UnlessIo answer ((new.world ≡ world) × (new.history ≡ history) × (new.size ≡ size))
+  pub stopped : StoppedCall world history new.history
 
 -- What leads from one moment to another, with this answer, over a disk that tells its bytes or doesn't: lines were
 -- added, which tell from each state of the world what was done, each call, and each growth of the file. Unless the disk

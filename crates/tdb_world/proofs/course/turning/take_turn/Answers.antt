@@ -10,6 +10,7 @@ use Rattle.tdb_openers.specs.Played.{growth, is_step}
 use Rattle.tdb_world.specs.Steps.{TurnLeads}
 use Rattle.tdb_world.specs.Stops.{IsSafe}
 use Rattle.tdb_world.specs.Whole.{form_at, WorldFits}
+use Rattle.tdb_world.specs.Courses.Stopped.StoppedCall.{stopped_turn}
 use Rattle.tdb_world.proofs.Courses.OneTurn.{failed_led, took_io, took_led, took_told}
 use Rattle.tdb_world.proofs.Courses.StoppedTurns.{TurnStops}
 use Rattle.tdb_world.proofs.course.turning.take_turn.Goals as goal
@@ -19,7 +20,8 @@ returns-in_err-turn-clause-led g c =
     let q = err_from_is_err_and c.from_residual.result c.from_residual.ensures.1 in
     rw (q.1, q.2)
     (failed_led g.D.Disk.tells c.args.world.now c.turn.new.self (g.D.Disk.history c.args.d.now) (g.D.Disk.history c.turn.new.d) (g.D.Disk.size c.args.d.now) (g.D.Disk.size c.turn.new.d)
-    (g.D.Disk.faults c.args.d.now) (g.D.Disk.faults c.turn.new.d) c.args.report.now.lines c.args.report.now.lines _ _ _ c.turn.ensures.rises refl (λ told state is. (c.in_err-turn.ensures.cause told state is).failed) (λ state mine. inl (refl, refl)))
+    (g.D.Disk.faults c.args.d.now) (g.D.Disk.faults c.turn.new.d) c.args.report.now.lines c.args.report.now.lines _ _ _ c.turn.ensures.rises refl
+    (λ told state is. stopped_turn c.args.who (c.in_err-turn.ensures.stopped told state is)) (λ told state is. (c.in_err-turn.ensures.cause told state is).failed) (λ state mine. inl (refl, refl)))
 
 pub returns-in_err-to-clause-led : goal.returns-in_err-to-clause-led
 returns-in_err-to-clause-led g c =
@@ -29,7 +31,7 @@ returns-in_err-to-clause-led g c =
     rw (q.1, q.2)
     (took_io g.D.Disk.tells c.args.world.now c.turn.new.self (g.D.Disk.history c.args.d.now) (g.D.Disk.history c.turn.new.d) (g.D.Disk.size c.args.d.now) (g.D.Disk.faults c.args.d.now) c.args.who c.args.command c.in_ok-turn.turn
     c.args.report.now.lines c.put_line.new.report.lines c.in_ok-turn.ensures.turned c.in_ok-turn.ensures.full c.in_ok-turn.ensures.header c.in_ok-turn.ensures.options
-    c.requires.has (g.met.D.Disk.told_size c.args.d.now) (g.D.Disk.faults c.length_of.new.d) (g.D.Disk.size c.length_of.new.d) (g.D.Disk.history c.length_of.new.d) _ (omega (arith, rises, more)) c.put_line.ensures.lines
+    c.requires.has (g.met.D.Disk.told_size c.args.d.now) (g.D.Disk.faults c.length_of.new.d) (g.D.Disk.size c.length_of.new.d) (g.D.Disk.history c.length_of.new.d) c.length_of.ensures.history _ (omega (arith, rises, more)) c.put_line.ensures.lines
     (λ told state is. subst (λ n. Rose n (g.D.Disk.faults c.length_of.new.d)) c.in_ok-turn.ensures.done c.in_err-to.ensures.cause.failed))
 
 pub returns-clause-led : goal.returns-clause-led

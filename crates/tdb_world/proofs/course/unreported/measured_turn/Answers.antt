@@ -9,6 +9,7 @@ use Rattle.tdb_openers.specs.Played.{growth, is_step, TakesLast, TakesOne}
 use Rattle.tdb_openers.specs.declared.fault.RunFault.TheVariants.{Io}
 use Rattle.tdb_world.specs.Steps.{TurnLeads}
 use Rattle.tdb_world.specs.Whole.{form_at, WorldFits}
+use Rattle.tdb_world.specs.Courses.Stopped.StoppedCall.{stopped_still, stopped_turn, stopped_untold}
 use Rattle.tdb_world.specs.Courses.Led.{moment, Led}
 use Rattle.tdb_world.specs.Courses.Turns.{IsToldOf, Never}
 use Rattle.tdb_world.specs.declared.course.unreported.MeasuredTurn.{MeasuredTurn}
@@ -22,7 +23,8 @@ returns-in_err-from-clause-led g c command front has =
     let q = err_from_is_err_and c.from_residual.result c.from_residual.ensures.1 in
     rw (q.1, q.2)
     (failed_led g.D.Disk.tells c.args.world.now c.args.world.now (g.D.Disk.history c.args.d.now) (g.D.Disk.history c.length_of.new.d) (g.D.Disk.size c.args.d.now) (g.D.Disk.size c.length_of.new.d)
-    (g.D.Disk.faults c.args.d.now) (g.D.Disk.faults c.length_of.new.d) front (front ++ []) _ _ _ c.length_of.ensures.cause.never_falls (append-nil front) (λ told state is. c.in_err-from.ensures.cause.failed) (λ state mine. inl (refl, refl)))
+    (g.D.Disk.faults c.args.d.now) (g.D.Disk.faults c.length_of.new.d) front (front ++ []) _ _ _ c.length_of.ensures.cause.never_falls (append-nil front)
+    (λ told state is. stopped_still c.length_of.ensures.history) (λ told state is. c.in_err-from.ensures.cause.failed) (λ state mine. inl (refl, refl)))
 
 pub returns-in_err-turn-clause-led : goal.returns-in_err-turn-clause-led
 returns-in_err-turn-clause-led g c command front has =
@@ -38,6 +40,7 @@ returns-in_err-turn-clause-led g c command front has =
     (λ state lines new. IsToldOf state (law_opener c.args.who) (law_command command) → TakesLast (form_at w) state (law_opener c.args.who) lines new))
     (same_moment w (g.D.Disk.history c.args.d.now) h (g.D.Disk.size c.args.d.now) size (g.D.Disk.faults c.args.d.now) before front front c.length_of.ensures.history c.length_of.ensures.size c.in_ok-from.ensures.cause.done refl)
     (failed_led g.D.Disk.tells w c.turn.new.self h (g.D.Disk.history c.turn.new.d) size (g.D.Disk.size c.turn.new.d) before now front (front ++ []) _ _ _ c.turn.ensures.rises (append-nil front)
+    (λ told state is. stopped_turn c.args.who (c.in_err-turn.ensures.stopped told state is))
     (λ told state is. (c.in_err-turn.ensures.cause told state is).failed) (λ state mine. inl (refl, refl))))
 
 pub returns-in_err-to-clause-led : goal.returns-in_err-to-clause-led
@@ -56,6 +59,8 @@ returns-in_err-to-clause-led g c command front has =
     (λ state lines new. IsToldOf state (law_opener c.args.who) (law_command command) → TakesLast (form_at w) state (law_opener c.args.who) lines new))
     (same_moment w (g.D.Disk.history c.args.d.now) h (g.D.Disk.size c.args.d.now) size (g.D.Disk.faults c.args.d.now) before front front c.length_of.ensures.history c.length_of.ensures.size c.in_ok-from.ensures.cause.done refl)
     (failed_led g.D.Disk.tells w c.turn.new.self h (g.D.Disk.history c.length_of-2.new.d) size (g.D.Disk.size c.length_of-2.new.d) before now front (front ++ []) _ _ _ (omega (arith, rises, more)) (append-nil front)
+    (λ told state is. stopped_untold c.args.who (law_turn c.in_ok-turn.turn) c.turn.new.self
+    (subst (λ u. TurnLeads w c.turn.new.self h u c.args.who (law_turn c.in_ok-turn.turn)) (sym c.length_of-2.ensures.history) (c.in_ok-turn.ensures.turned told)) (c.in_ok-turn.ensures.full told))
     (λ told state is. subst (λ n. Rose n now) c.in_ok-turn.ensures.done c.in_err-to.ensures.cause.failed) (λ state mine. inl (refl, refl))))
 
 pub returns-clause-led : goal.returns-clause-led

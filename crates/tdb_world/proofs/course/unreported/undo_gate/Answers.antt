@@ -3,6 +3,7 @@ use Rattle.std.proofs.Common.{[], None, Some, Ok, refl, sym, ◌∙◌, subst}
 use Rattle.std.proofs.lemmas.Result.{err_from_is_err_and}
 use Rattle.tdb_law.specs.Plays.Clears.{clears_nothing}
 use Rattle.tdb_world.specs.Steps.{HasCommand, HasThis}
+use Rattle.tdb_world.specs.Courses.Stopped.StoppedCall.{stopped_undo}
 use Rattle.tdb_world.specs.Courses.Led.{moment}
 use Rattle.tdb_world.specs.Courses.Unreported.{undo_lines}
 use Rattle.tdb_world.proofs.Courses.Leading.{led_none}
@@ -21,7 +22,8 @@ returns-in_err-undone-clause-led g c =
     let q = err_from_is_err_and c.from_residual.result c.from_residual.ensures.1 in
     rw (q.1, q.2)
     (failed_led g.D.Disk.tells c.args.world.now c.undo_stale.new.self (g.D.Disk.history c.args.d.now) (g.D.Disk.history c.undo_stale.new.d) (g.D.Disk.size c.args.d.now) (g.D.Disk.size c.undo_stale.new.d)
-    (g.D.Disk.faults c.args.d.now) (g.D.Disk.faults c.undo_stale.new.d) [] [] _ _ _ c.undo_stale.ensures.cause.never_falls refl (λ told state is. c.in_err-undone.ensures.cause.failed) (λ state. (refl, refl)))
+    (g.D.Disk.faults c.args.d.now) (g.D.Disk.faults c.undo_stale.new.d) [] [] _ _ _ c.undo_stale.ensures.cause.never_falls refl
+    (λ told state is. stopped_undo (c.undo_stale.ensures.stops told)) (λ told state is. c.in_err-undone.ensures.cause.failed) (λ state. (refl, refl)))
 
 pub returns-clause-led : goal.returns-clause-led
 returns-clause-led g c =

@@ -1,0 +1,26 @@
+-- What the call leaves of the file at which plays break off.
+use Rattle.std.specs.Prelude.{ℕ, ◌≡◌}
+use Rattle.tdb_disk.specs.History.{History}
+use Rattle.tdb_disk.specs.Stop.{LeavesOnly}
+use Rattle.tdb_law.specs.Commands.{Turn}
+use Rattle.tdb_law.specs.World.{State}
+use Rattle.tdb_world.specs.Room.{FullOfTurn}
+use Rattle.tdb_world.specs.States.{IsStateOf}
+use Rattle.tdb_world.specs.Steps.{TurnLeads}
+use Rattle.tdb_world.specs.Stopped.{StoppedTurn}
+use Rattle.tdb_world.specs.Stops.{IsSafe, OpensToState}
+use Rattle.tdb_world.specs.Whole.{Whole, form_at}
+
+-- The undo of an open gate failed: each stop in it and behind it leaves a file that opens to the map and the number of
+-- the state before, where the file was safe.
+abbrev pub StoppedUndo : Whole → History → History → Type 0
+StoppedUndo w h g = (state : State) → IsStateOf w h state → IsSafe (form_at w) h → LeavesOnly h g (OpensToState (form_at w) state)
+
+-- What the call leaves that failed, in a world and over its file: nothing has changed, as where the length wasn't had;
+-- a turn failed, or the undo of an open gate; or a turn was taken that no line tells, since the length of the file
+-- wasn't had behind it.
+pub data StoppedCall (w : Whole) (h g : History) : Type 0 where
+  stopped_still : g ≡ h → StoppedCall w h g
+  stopped_turn : (who : ℕ) → StoppedTurn w h g who → StoppedCall w h g
+  stopped_undo : StoppedUndo w h g → StoppedCall w h g
+  stopped_untold : (who : ℕ) (turn : Turn) (v : Whole) → TurnLeads w v h g who turn → FullOfTurn w h who turn → StoppedCall w h g
