@@ -19,3 +19,4 @@ pub mod Blanks
 pub mod DroppedArea
 pub mod Replaced
 pub mod Plans
+pub mod PlanSyncs

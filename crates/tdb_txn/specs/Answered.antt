@@ -1,5 +1,6 @@
 -- What the plan of a commit answers.
 use Rattle.std.specs.Prelude.{◌≡◌, ℕ, ◌+◌, ◌<◌, ◌≤◌, ◌^◌, List, [], Result, Ok, Err}
+use Rattle.tdb_disk.specs.Count.{RoseBy}
 use Rattle.tdb_disk.specs.History.{History}
 use Rattle.tdb_words.specs.Word.{word}
 use Rattle.tdb_words.specs.Header.{area_head}
@@ -119,3 +120,17 @@ LeftFor old size new now (Ok Nothing) = (new ≡ old) × (now ≡ size)
 LeftFor old size new now (Ok (Ready planned)) = now ≡ plan_length (planned_plan planned)
 LeftFor old size new now (Err Io) = Unit {0}
 LeftFor old size new now (Err _) = (new ≡ old) × (now ≡ size)
+
+-- How many syncs the plan of a commit into image r makes: none where the undo area of r is kept, three where r has none,
+-- and five where its area is replaced, since it is too short for the content of all that changes.
+pub data AreaSyncs (txn : Txn) (r : List ℕ) (before now : ℕ) : Type 0 where
+  kept : (e : Extent) (runs : List Extent) → MayKeep txn r e runs → now ≡ before → AreaSyncs txn r before now
+  anew : word (form_of r).order r area_head ≡ 0 → RoseBy 3 before now → AreaSyncs txn r before now
+  replaced : (e : Extent) (too_much : List Extent) → HasAreaIn (form_of r).order r e → ChangedRuns r (txn_image txn r) (txn_start txn) e too_much
+      → e.1 < 24 + content_length too_much → RoseBy 5 before now → AreaSyncs txn r before now
+
+-- and where there is nothing to commit none
+abbrev pub PlanSyncs : Txn → List ℕ → ℕ → ℕ → Result ToCommit TxnRefusal → Type 0
+PlanSyncs txn r before now (Ok Nothing) = now ≡ before
+PlanSyncs txn r before now (Ok (Ready planned)) = AreaSyncs txn r before now
+PlanSyncs txn r before now (Err _) = Unit {0}

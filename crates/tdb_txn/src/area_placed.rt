@@ -4,6 +4,7 @@ ghost use Rattle.tdb_disk.specs.Count.{HasCause, RoseBy};
 ghost use Rattle.tdb_disk.specs.History.{seen};
 ghost use Rattle.tdb_disk.specs.Stop.{LeavesOnly, Quiet};
 ghost use Rattle.tdb_space.specs.Undoing.{Reopens};
+ghost use Rattle.tdb_undo.specs.Placing.{clearing_syncs};
 ghost use Rattle.tdb_txn.specs.CommitStates.{planned_plan};
 ghost use Rattle.tdb_txn.specs.Planned.{IsPlannedOn};
 ghost use Rattle.tdb_txn.specs.Planning.{PlacesArea};
@@ -30,6 +31,7 @@ pub(crate) fn place_area<D: Disk>(d: &mut D, plan: Plan) -> Result<Planned, Io>
     ensures size { OnOk result (D.size d.new ≡ plan.file_length) }
     ensures cause { HasCause (D.faults d.old) (D.faults d.new) result }
     ensures syncs { OnOk result (RoseBy 3 (D.syncs d.old) (D.syncs d.new) ⊎ RoseBy 5 (D.syncs d.old) (D.syncs d.new)) }
+    ensures as_often { OnOk result (IsTrue D.tells → (x b : List ℕ) → let r = seen (D.history d.old) in PlacesArea plan r x b → RoseBy (clearing_syncs plan.header.order r + 3) (D.syncs d.old) (D.syncs d.new)) }
 {
     ensure(
         d,

@@ -4,7 +4,9 @@ ghost use Rattle.tdb_disk.specs.Count.{HasCause, RoseBy};
 ghost use Rattle.tdb_disk.specs.History.{seen};
 ghost use Rattle.tdb_disk.specs.Stop.{LeavesOnly, Quiet};
 ghost use Rattle.tdb_space.specs.Planned.{content_length};
+ghost use Rattle.tdb_space.specs.Form.{form_of};
 ghost use Rattle.tdb_space.specs.Undoing.{Reopens};
+ghost use Rattle.tdb_undo.specs.Placing.{clearing_syncs};
 ghost use Rattle.tdb_txn.specs.AreaExtent.{CanHold};
 ghost use Rattle.tdb_txn.specs.CommitStates.{planned_plan, plan_length};
 ghost use Rattle.tdb_txn.specs.EndBelow.{EndBelow};
@@ -84,6 +86,7 @@ impl Txn {
         ensures file { IfOk result (λ next. plan_length (planned_plan next) ≡ txn_size self + length) }
         ensures cause { HasCause (D.faults d.old) (D.faults d.new) result }
         ensures syncs { OnOk result (RoseBy 3 (D.syncs d.old) (D.syncs d.new) ⊎ RoseBy 5 (D.syncs d.old) (D.syncs d.new)) }
+        ensures as_often { OnOk result (IsTrue D.tells → let r = seen (D.history d.old) in (x : List ℕ) → MayPlace self r x runs → RoseBy (clearing_syncs (form_of r).order r + 3) (D.syncs d.old) (D.syncs d.new)) }
     {
         let mut pages = self.pages;
         pages.shrink_to_fit();

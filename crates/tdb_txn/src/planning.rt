@@ -10,6 +10,7 @@ ghost use Rattle.tdb_txn.specs.AreaExtent.{CanHold};
 ghost use Rattle.tdb_txn.specs.AreaRoom.{new_area_length};
 ghost use Rattle.tdb_txn.specs.CommitStates.{planned_plan, plan_length};
 ghost use Rattle.tdb_txn.specs.EndBelow.{EndBelow};
+ghost use Rattle.tdb_undo.specs.Placing.{clearing_syncs};
 ghost use Rattle.tdb_txn.specs.Planned.{IsPlannedOn};
 
 use crate::area_found::find_area;
@@ -31,7 +32,7 @@ pub enum ToCommit {
 }
 
 impl Txn {
-    ghost use Rattle.tdb_txn.specs.Answered.{AnsweredRightly, LeftFor, AreaReplaced, ReplaceRefused, PlaceRefused};
+    ghost use Rattle.tdb_txn.specs.Answered.{AnsweredRightly, LeftFor, AreaReplaced, PlanSyncs, ReplaceRefused, PlaceRefused};
     ghost use Rattle.tdb_txn.specs.Committing.{MayCommit, MayPlace, HasAreaIn};
     ghost use Rattle.tdb_txn.specs.Txn.{txn_start, txn_size, txn_image, txn_depth, txn_doomed};
 
@@ -58,6 +59,7 @@ impl Txn {
         ensures file { IfOk result (λ next. (txn_start self ≤ plan_length (planned_plan next)) × (plan_length (planned_plan next) ≤ limit)) }
         ensures cause { HasCauseOf TxnRefusal.Io (D.faults d.old) (D.faults d.new) result }
         ensures syncs { OnOk result (RoseBy 3 (D.syncs d.old) (D.syncs d.new) ⊎ RoseBy 5 (D.syncs d.old) (D.syncs d.new)) }
+        ensures as_often { OnOk result (IsTrue D.tells → let r = seen (D.history d.old) in (x : List ℕ) → MayPlace self r x runs → RoseBy (clearing_syncs (form_of r).order r + 3) (D.syncs d.old) (D.syncs d.new)) }
     {
         let need = area_len_of(&runs);
         if limit - self.size < need {
@@ -97,6 +99,7 @@ impl Txn {
         ensures file { IfOk result (λ next. (txn_start self ≤ plan_length (planned_plan next)) × (plan_length (planned_plan next) ≤ limit)) }
         ensures cause { HasCauseOf TxnRefusal.Io (D.faults d.old) (D.faults d.new) result }
         ensures syncs { OnOk result (RoseBy 3 (D.syncs d.old) (D.syncs d.new) ⊎ RoseBy 5 (D.syncs d.old) (D.syncs d.new)) }
+        ensures as_often { OnOk result (IsTrue D.tells → let r = seen (D.history d.old) in MayCommit self r → HasAreaIn (form_of r).order r area → RoseBy 5 (D.syncs d.old) (D.syncs d.new)) }
     {
         self.give_up(d, area)?;
         let comparison = Comparison {
@@ -115,10 +118,10 @@ impl Txn {
     /// `Nothing` comes just where no byte changes, outside the undo area and the word that leads to it, and the length
     /// doesn't; `Full` just where a new undo area is wanted and with it the file would pass the limit. `Memory` comes
     /// only where something changes; where the file has no undo area yet, only if the new one has room, so `Full` never
-    /// waits for memory there. With all three nothing is changed. A stop leaves a file that opens to the map before the commit. It takes no sync
-    /// where the area is kept, three where a first one is placed, five where the file has another one. It reads the
-    /// file where the transaction has pages, and takes time linear in these and in the length of an undo area that is
-    /// replaced.
+    /// waits for memory there. With all three nothing is changed. A stop leaves a file that opens to the map before the
+    /// commit. It takes no sync where the area is kept, three where a first one is placed, five where the file has
+    /// another one. It reads the file where the transaction has pages, and takes time linear in these and in the length
+    /// of an undo area that is replaced.
     pub fn plan<D: Disk>(self, d: &mut D, limit: u64) -> Result<ToCommit, TxnRefusal>
         requires depth { txn_depth self ≡ 0 }
         requires whole { txn_doomed self ≡ false }
@@ -135,6 +138,8 @@ impl Txn {
         ensures length { OnOk result ((D.size d.old ≤ D.size d.new) × (D.size d.new ≤ limit)) }
         ensures cause { HasCauseOf TxnRefusal.Io (D.faults d.old) (D.faults d.new) result }
         ensures syncs { OnOk result ((D.syncs d.new ≡ D.syncs d.old) ⊎ RoseBy 3 (D.syncs d.old) (D.syncs d.new) ⊎ RoseBy 5 (D.syncs d.old) (D.syncs d.new)) }
+        ensures idle { IfOk result (λ left. left ≡ ToCommit.Nothing → D.syncs d.new ≡ D.syncs d.old) }
+        ensures as_often { IsTrue D.tells → let r = seen (D.history d.old) in MayCommit self r → PlanSyncs self r (D.syncs d.old) (D.syncs d.new) result }
     {
         let area = find_area(d, self.header.order, self.start)?;
         let runs = self.changes(d, area, limit)?;

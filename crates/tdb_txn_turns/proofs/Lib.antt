@@ -4,6 +4,7 @@ pub mod Starts
 pub mod CommitLocks
 pub mod Planned
 pub mod Room
+pub mod PlanSyncs
 pub mod Carried
 pub mod CommitTurns
 pub mod Lawful

@@ -102,12 +102,19 @@ abbrev pub CommitLeaves : ℕ → ℕ → ℕ → CommitTurn → Type 0
 CommitLeaves limit before now (Step next) = CommitFits next now limit
 CommitLeaves limit before now _ = now ≡ before
 
--- how many syncs a turn makes; of one that ends without room or memory nothing is said
+-- how many syncs a turn makes
 abbrev pub StepSyncs : Committing → ℕ → ℕ → Type 0
 StepSyncs (Preparing p) before now = StageSyncs p.stage before now
 StepSyncs (Finishing s) before now = FinishSyncs s before now
 
+-- One that ends before the undo area is filled makes none: nothing is to be committed then.
+abbrev pub LastSyncs : Committing → ℕ → ℕ → Type 0
+LastSyncs (Preparing p) before now = now ≡ before
+LastSyncs (Finishing s) before now = FinishSyncs s before now
+
+-- of one that ends without room or memory nothing is said
 abbrev pub CommitSyncs : Committing → ℕ → ℕ → CommitTurn → Type 0
+CommitSyncs c before now Done = LastSyncs c before now
 CommitSyncs c before now (Full len need) = Unit {0}
 CommitSyncs c before now Memory = Unit {0}
 CommitSyncs c before now _ = StepSyncs c before now

@@ -5,5 +5,6 @@ pub mod Prepares
 pub mod Finishes
 pub mod Committings
 pub mod Room
+pub mod PlanSyncs
 pub mod Laws
 pub mod InsideTxn

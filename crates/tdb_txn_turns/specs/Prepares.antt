@@ -133,15 +133,16 @@ abbrev pub KeepsWithin : ℕ → ℕ → ℕ → Type 0
 KeepsWithin limit before now = (before ≤ now) × (before ≤ limit → now ≤ limit)
 
 -- How many syncs a turn makes: the plan none where the undo area is kept or nothing is to be committed, three where a
--- first one is placed, and five where another one is replaced; each of the next two turns one. Of a plan that is
--- refused nothing is said.
+-- first one is placed, and five where another one is replaced; each of the next two turns one.
 abbrev pub StageSyncs : PrepareStage → ℕ → ℕ → Type 0
 StageSyncs (Locked txn) before now = (now ≡ before) ⊎ RoseBy 3 before now ⊎ RoseBy 5 before now
 StageSyncs (Planned state) before now = RoseUpTo 1 before now
 StageSyncs (Filled state) before now = RoseBy 1 before now
 StageSyncs _ before now = now ≡ before
 
+-- A turn that ends since nothing is to be committed makes none. Of a plan that is refused nothing is said.
 abbrev pub PrepareSyncs : PrepareStage → ℕ → ℕ → PrepareTurn → Type 0
+PrepareSyncs s before now To.Nothing = now ≡ before
 PrepareSyncs s before now (To.Full len need) = Unit {0}
 PrepareSyncs s before now To.Memory = Unit {0}
 PrepareSyncs s before now _ = StageSyncs s before now

@@ -7,6 +7,7 @@ ghost use Rattle.tdb_law.specs.Rows.{Lock};
 ghost use Rattle.tdb_law.specs.Held.{locked_next};
 ghost use Rattle.tdb_txn_turns.specs.Committings.{commit_after, commit_steps, commit_row, commit_turn, IsNumbered, IsOpened, CommitFits, KnowsCommit, CommitMayLeave, CommitLeads, CommitMade, CommitLeaves, CommitSyncs};
 ghost use Rattle.tdb_txn_turns.specs.Room.{CommitFull};
+ghost use Rattle.tdb_txn_turns.specs.PlanSyncs.{CommitPlans};
 ghost use Rattle.tdb_txn_turns.specs.declared.committing.Committing.TheVariants as Committing;
 ghost use Rattle.tdb_txn_turns.specs.Holding.{HoldsRow, RowTurned};
 ghost use Rattle.tdb_txn_turns.specs.Prepares.{begun_with, prepare_turn, start_held, KeepsWithin};
@@ -122,6 +123,7 @@ impl Committing {
         ensures err { OnErr result (locks.new ≡ locks.old) }
         ensures cause { HasCause (D.faults d.old) (D.faults d.new) result }
         ensures syncs { IfOk result (CommitSyncs self (D.syncs d.old) (D.syncs d.new)) }
+        ensures plans { IfOk result (λ turn. IsTrue D.tells → (r b : List ℕ) → KnowsCommit self (D.history d.old) r b → CommitPlans self r (D.syncs d.old) (D.syncs d.new) turn) }
     {
         match self {
             Committing::Preparing(preparing) => {

@@ -8,6 +8,7 @@ ghost use Rattle.tdb_law.specs.Rows.{commit_locks};
 ghost use Rattle.tdb_txn_turns.specs.Holding.{HoldsRow, RowTurned};
 ghost use Rattle.tdb_txn_turns.specs.Prepares.{at_stage, begun_with, prepare_steps, prepare_row, prepare_turn, start_held, MayPlan, StageFits, KeepsWithin, IsReady, KnowsStage, PrepareLeads, PrepareMade, PrepareLeaves, PrepareSyncs};
 ghost use Rattle.tdb_txn_turns.specs.Room.{FullAsPlanned, PrepareFull};
+ghost use Rattle.tdb_txn_turns.specs.PlanSyncs.{PreparePlans};
 ghost use Rattle.tdb_txn_turns.specs.declared.preparing.PrepareStage.TheVariants as PrepareStage;
 
 use crate::taking::{ALL_RECORDS, Attempt, take, take_opening};
@@ -141,6 +142,7 @@ fn plan_turn<D: Disk>(
     ensures err { OnErr result (locks.new ≡ locks.old) }
     ensures cause { HasCause (D.faults d.old) (D.faults d.new) result }
     ensures syncs { IfOk result (PrepareSyncs (PrepareStage.Locked txn) (D.syncs d.old) (D.syncs d.new)) }
+    ensures plans { IfOk result (λ turn. IsTrue D.tells → (r b : List ℕ) → IsReady txn (D.history d.old) r b → PreparePlans (PrepareStage.Locked txn) r (D.syncs d.old) (D.syncs d.new) turn) }
 {
     match txn.plan(d, limit) {
         Ok(ToCommit::Nothing) => Ok(PrepareTurn::Nothing),
@@ -222,6 +224,7 @@ impl Preparing {
         ensures err { OnErr result (locks.new ≡ locks.old) }
         ensures cause { HasCause (D.faults d.old) (D.faults d.new) result }
         ensures syncs { IfOk result (PrepareSyncs self.stage (D.syncs d.old) (D.syncs d.new)) }
+        ensures plans { IfOk result (λ turn. IsTrue D.tells → (r b : List ℕ) → KnowsStage self.stage (D.history d.old) r b → PreparePlans self.stage r (D.syncs d.old) (D.syncs d.new) turn) }
     {
         let Preparing { numbered, stage } = self;
         match stage {

@@ -18,3 +18,6 @@ returns-clause-planned g c told x b quiet places =
     placed_planned c.args.plan r x b (seen new) places
     (subst (λ f. IsPlaced f r (seen new) c.args.plan.area (c.args.plan.area_length - 24)) places.leads.header (c.in_ok-ensure.ensures.placed told places.leads.before (sym places.leads.header)))
     new (c.in_ok-ensure.ensures.quiet told) refl
+
+pub returns-clause-as_often : goal.returns-clause-as_often
+returns-clause-as_often g c told x b places = c.in_ok-ensure.ensures.as_often told places.leads.before (sym places.leads.header)

@@ -2,7 +2,7 @@
 use Rattle.std.proofs.Common.{true, Ok, Err, sym, ◌∙◌, ap, subst}
 use Rattle.tdb_disk.specs.History.{seen}
 use Rattle.tdb_law.specs.Rows.{commit_locks}
-use Rattle.tdb_txn.specs.Answered.{AnsweredRightly, LeftFor}
+use Rattle.tdb_txn.specs.Answered.{AnsweredRightly, LeftFor, PlanSyncs}
 use Rattle.tdb_txn.specs.declared.planning.ToCommit.TheVariants.{Nothing, Ready}
 use Rattle.tdb_txn.specs.declared.refusal.TxnRefusal.TheVariants as TxnRefusal
 use Rattle.tdb_txn.specs.CommitStates.{planned_plan}
@@ -12,6 +12,7 @@ use Rattle.tdb_txn_turns.specs.Holding.{first_next}
 use Rattle.tdb_txn_turns.specs.Prepares.{start_held}
 use Rattle.tdb_txn_turns.proofs.CommitLocks.{third_first, third_wants}
 use Rattle.tdb_txn_turns.proofs.Planned.{plan_answer, plan_finds_nothing, plan_is_ready}
+use Rattle.tdb_txn_turns.proofs.PlanSyncs.{plan_syncs}
 use Rattle.tdb_txn_turns.proofs.Room.{planned_full, planned_memory, planned_nothing, planned_ready}
 use Rattle.tdb_txn_turns.proofs.Rows.{row_steps}
 use Rattle.tdb_txn_turns.proofs.preparing.plan_turn.Goals as goal
@@ -81,3 +82,15 @@ returns-in-Err-Memory-clause-full g c told r b R =
     let new = g.D.Disk.history c.plan.new.d in
     planned_memory a.txn a.limit r
     (plan_answer a.txn a.limit r b h new R (Err TxnRefusal.Memory) (λ quiet may. subst (λ x. AnsweredRightly a.txn a.limit (seen h) new (Err x)) i.field-0-is (i.ensures.answered told quiet may)))
+
+-- how many syncs the plan makes
+pub returns-in-Ok-Nothing-clause-syncs : goal.returns-in-Ok-Nothing-clause-syncs
+returns-in-Ok-Nothing-clause-syncs g c = c.in-Ok-Nothing.ensures.idle c.in-Ok-Nothing.field-0-is
+
+pub returns-in-Ok-Ready-clause-plans : goal.returns-in-Ok-Ready-clause-plans
+returns-in-Ok-Ready-clause-plans g c told r b R =
+    let i = c.in-Ok-Ready in
+    let a = c.args in
+    let h = g.D.Disk.history a.d.now in
+    plan_syncs a.txn r b h R (g.D.Disk.syncs a.d.now) (g.D.Disk.syncs c.plan.new.d)
+    (λ may. subst (λ x. PlanSyncs a.txn (seen h) (g.D.Disk.syncs a.d.now) (g.D.Disk.syncs c.plan.new.d) (Ok x)) i.field-0-is (i.ensures.as_often told may))

@@ -1,6 +1,7 @@
 -- Each way of the plan answers rightly, and leaves a file that opens to the map before.
 use Rattle.std.proofs.Common.{◌≡◌, ◌+◌, ◌<◌, ◌≤◌, ℕ, List, sym, ◌∙◌, ap, subst, inl, inr, arith}
 use Rattle.std.proofs.lemmas.Result.{err_from_is_err_and}
+use Rattle.tdb_disk.specs.Count.{RoseBy}
 use Rattle.tdb_disk.specs.History.{History, seen}
 use Rattle.tdb_words.specs.declared.word.Order.{Order}
 use Rattle.tdb_space.specs.Extents.{Extent}
@@ -9,10 +10,12 @@ use Rattle.tdb_space.specs.Runs.{ChangedRuns}
 use Rattle.tdb_space.specs.Planned.{content_length}
 use Rattle.tdb_txn.specs.Answered.{RunsRefused}
 use Rattle.tdb_txn.specs.AreaExtent.{IsAreaExtent}
-use Rattle.tdb_txn.specs.Committing.{MayCommit}
+use Rattle.tdb_undo.specs.Placing.{clearing_syncs}
+use Rattle.tdb_txn.specs.Committing.{HasAreaIn, MayCommit, MayPlace}
 use Rattle.tdb_txn.specs.Txn.{txn_image, txn_start}
 use Rattle.tdb_txn.specs.declared.txn.Txn.{Txn}
 use Rattle.tdb_txn.proofs.Plans
+use Rattle.tdb_txn.proofs.PlanSyncs.{anew_syncs, kept_syncs, replaced_syncs}
 use Rattle.tdb_txn.proofs.Replaced.{still_stops}
 use Rattle.tdb_txn.proofs.txn.Txn.plan.Goals as goal
 use Rattle.tdb_txn.proofs.txn.Txn.plan.Goals.{else-len-eq0-via-then-len-eq0+else-self, else-len-eq0-via-else-len-eq0, then-area-eq0+in_ok-planned, else-area-eq0+then-content_len-area+in_ok-planned-2, else-area-eq0+else-content_len-area+in_ok-planned-3}
@@ -198,3 +201,36 @@ returns-clause-answered g c told quiet may =
             (Plans.replace_planned t e _ h (g.D.Disk.history c.changes.new.d) (g.D.Disk.history w.replace.new.d) same (w.in_ok-planned-3.ensures.planned told) quiet may there))
       ],
     )
+
+-- the plan is over a disk of the same history, with the same count of syncs
+pub returns-clause-as_often : goal.returns-clause-as_often
+returns-clause-as_often g c told may =
+    let h = g.D.Disk.history c.args.d.now in
+    let r = seen h in
+    let t = c.args.self in
+    let e = c.in_ok-area.area in
+    let runs = c.in_ok-runs.runs in
+    let before = g.D.Disk.syncs c.args.d.now in
+    let is = found t r e may (λ f order. c.in_ok-area.ensures.found told (form_of r) (sym (ap (λ (f : Form). f.order) may.header)) may.before.area_ok) in
+    let changed = runs_of t e runs h (g.D.Disk.history c.find_area.new.d) c.find_area.ensures.history (c.in_ok-runs.ensures.runs told) in
+    let same = c.changes.ensures.history ∙ c.find_area.ensures.history in
+    let count : g.D.Disk.syncs c.changes.new.d ≡ before = c.changes.ensures.syncs ∙ c.find_area.ensures.syncs in
+    elim c.if-area-eq0.branch [
+      | then-area-eq0+in_ok-planned w ↦ rw w.d-is
+          (let new = g.D.Disk.syncs w.place_new.new.d in
+          let placed = subst (λ (y : History). (x : List ℕ) → MayPlace t (seen y) x runs → RoseBy (clearing_syncs (form_of (seen y)).order (seen y) + 3) (g.D.Disk.syncs c.changes.new.d) new) same
+          (w.in_ok-planned.ensures.as_often told) r (Plans.may_place t c.args.limit r e runs may is changed w.if-area-eq0.true) in
+          anew_syncs t r e runs may is changed before new w.if-area-eq0.true (subst (λ n. RoseBy (clearing_syncs (form_of r).order r + 3) n new) count placed))
+      | else-area-eq0+then-content_len-area+in_ok-planned-2 w ↦ rw w.d-is
+          (let fits : 24 + content_length runs ≤ e.1 =
+          elim c.in_ok-area.ensures.place [ inl none ↦ absurd (w.if-area-eq0.false (ap (λ (x : Extent). x.1) none)) | inr can ↦ omega (arith, w.if-content_len-area.true, w.content_len.ensures, can.within, can.header, t.longer, c.requires.within, c.requires.short) ] in
+          kept_syncs t r e runs may is changed before (g.D.Disk.syncs w.keep.new.d) w.if-area-eq0.false fits (w.keep.ensures.syncs ∙ count))
+      | else-area-eq0+else-content_len-area+in_ok-planned-3 w ↦ rw w.d-is
+          (let there = Plans.area_there t c.args.limit r e runs may is changed w.if-area-eq0.false in
+          let header : 24 ≤ e.1 = omega (arith, ap (λ (x : Extent). x.1) there.extent) in
+          let short : e.1 < 24 + content_length runs = omega (arith, w.if-content_len-area.false, w.content_len.ensures, header) in
+          let new = g.D.Disk.syncs w.replace.new.d in
+          let placed = subst (λ (y : History). MayCommit t (seen y) → HasAreaIn (form_of (seen y)).order (seen y) e → RoseBy 5 (g.D.Disk.syncs c.changes.new.d) new) same
+          (w.in_ok-planned-3.ensures.as_often told) may there in
+          replaced_syncs t r e runs may is changed before new w.if-area-eq0.false short (subst (λ n. RoseBy 5 n new) count placed))
+    ]

@@ -1,11 +1,14 @@
 -- The runs are those from the file with zeros in its undo area, and the new area is placed for them.
-use Rattle.std.proofs.Common.{◌≡◌, ◌<◌, ◌^◌, ℕ, List, sym, ◌∙◌, subst, arith}
-use Rattle.std.proofs.lemmas.Result.{IfOk-weaker, IfErr-weaker}
+use Rattle.std.proofs.Common.{◌≡◌, ◌+◌, ◌<◌, ◌^◌, ℕ, List, sym, ◌∙◌, subst, arith}
+use Rattle.std.proofs.lemmas.Result.{IfOk-weaker, IfErr-weaker, on_ok_weaker}
+use Rattle.tdb_disk.specs.Count.{RoseBy}
 use Rattle.tdb_disk.specs.History.{History, seen}
 use Rattle.tdb_disk.specs.Stop.{LeavesOnly, Quiet}
 use Rattle.tdb_space.specs.Extents.{Extent}
+use Rattle.tdb_space.specs.Form.{form_of}
 use Rattle.tdb_space.specs.Undoing.{Reopens}
 use Rattle.tdb_space.specs.Runs.{ChangedRuns}
+use Rattle.tdb_undo.specs.Placing.{clearing_syncs}
 use Rattle.tdb_txn.specs.Answered.{AreaReplaced, PlaceRefused, ReplaceRefused}
 use Rattle.tdb_txn.specs.CommitStates.{planned_plan}
 use Rattle.tdb_txn.specs.Committing.{MayPlace}
@@ -17,6 +20,7 @@ use Rattle.tdb_txn.specs.declared.refusal.TxnRefusal.{TxnRefusal}
 use Rattle.tdb_txn.specs.declared.refusal.TxnRefusal.TheVariants.{Full, Io, Memory}
 use Rattle.tdb_txn.specs.declared.txn.Txn.{Txn}
 use Rattle.tdb_txn.proofs.NewAreas.{content_short}
+use Rattle.tdb_txn.proofs.PlanSyncs.{two_syncs}
 use Rattle.tdb_txn.proofs.Replaced.{still_stops, both_ok, cleared, cleared_blanked, found_bytes, replaced_places, replaced_area}
 use Rattle.tdb_txn.proofs.txn.Txn.replace.Goals as goal
 
@@ -100,3 +104,27 @@ returns-clause-refusal g c =
     (omega (arith, t.longer, given.only.size, c.requires.within, c.requires.short))
     (replaced_area c.args.self t r c.args.area given.only may has G given.pages c.in_ok-runs.runs changed) c.in_ok-runs.ensures.ends p)
     c.place_new.ensures.refusal
+
+-- two syncs for the area that is there, and three for the new one
+pub returns-clause-as_often : goal.returns-clause-as_often
+returns-clause-as_often g c =
+    on_ok_weaker c.place_new.result
+    (λ often told may has.
+    let h = g.D.Disk.history c.args.d.now in
+    let r = seen h in
+    let t = c.give_up.new.self in
+    let given = c.in_ok-give_up.ensures in
+    let G = given.given_up told may has in
+    let x = cleared c.args.self t r c.args.area given.only may has G given.pages in
+    let changed : ChangedRuns x (txn_image t r) t.start (0, 0) c.in_ok-runs.runs =
+    c.in_ok-runs.ensures.runs told x (txn_image t r)
+    (subst (λ (y : History). Blanked c.args.area (seen y) x) (sym c.give_up.ensures.history) (cleared_blanked c.args.self t r c.args.area given.only may has G given.pages))
+    (found_bytes c.args.self t r c.args.area given.only may has G given.pages) in
+    let same : g.D.Disk.history c.find_runs.new.d ≡ h = c.find_runs.ensures.history ∙ c.give_up.ensures.history in
+    let count : g.D.Disk.syncs c.find_runs.new.d ≡ g.D.Disk.syncs c.args.d.now = c.find_runs.ensures.syncs ∙ c.give_up.ensures.syncs in
+    let placed : RoseBy (clearing_syncs (form_of r).order r + 3) (g.D.Disk.syncs c.find_runs.new.d) (g.D.Disk.syncs c.place_new.new.d) =
+    subst (λ (y : History). (x : List ℕ) → MayPlace t (seen y) x c.in_ok-runs.runs → RoseBy (clearing_syncs (form_of (seen y)).order (seen y) + 3) (g.D.Disk.syncs c.find_runs.new.d) (g.D.Disk.syncs c.place_new.new.d)) same
+    (often told) x (replaced_places c.args.self t r c.args.area given.only may has G given.pages c.in_ok-runs.runs changed) in
+    subst (λ n. RoseBy n (g.D.Disk.syncs c.args.d.now) (g.D.Disk.syncs c.place_new.new.d)) (two_syncs (form_of r).order r has.some)
+    (subst (λ n. RoseBy (clearing_syncs (form_of r).order r + 3) n (g.D.Disk.syncs c.place_new.new.d)) count placed))
+    c.place_new.ensures.as_often

@@ -7,11 +7,13 @@ use Rattle.tdb_txn.specs.Commit.{IsFilled, IsPrepared}
 use Rattle.tdb_txn.specs.CommitStates.{planned_plan, filled_plan, prepared_plan}
 use Rattle.tdb_txn.specs.Planned.{IsPlannedOn}
 use Rattle.tdb_txn_turns.specs.Prepares.{at_stage, prepare_turn, KnowsStage, StageFits, PrepareMade}
+use Rattle.tdb_txn_turns.specs.PlanSyncs.{PlannedSyncs, PreparePlans}
 use Rattle.tdb_txn_turns.specs.Room.{PrepareFull}
 use Rattle.tdb_txn_turns.specs.declared.preparing.PrepareStage.{PrepareStage}
 use Rattle.tdb_txn_turns.specs.declared.preparing.PrepareStage.TheVariants as Stage
 use Rattle.tdb_txn_turns.specs.declared.preparing.PrepareTurn.TheVariants as To
 use Rattle.tdb_txn_turns.proofs.Carried.{carried_stops, carried_on, carried_filled, rests_stops, ready_rests}
+use Rattle.tdb_txn_turns.proofs.PlanSyncs.{not_planned}
 use Rattle.tdb_txn_turns.proofs.Room.{early_full, never_done, never_step}
 use Rattle.tdb_txn_turns.proofs.preparing.Preparing.step.Goals as goal
 
@@ -121,3 +123,27 @@ returns-in_ok-fill-in-Planned-clause-full g c told r b K = subst (λ s. PrepareF
 
 pub returns-in_ok-open_gate-in-Filled-clause-full : goal.returns-in_ok-open_gate-in-Filled-clause-full
 returns-in_ok-open_gate-in-Filled-clause-full g c told r b K = subst (λ s. PrepareFull s c.args.limit r (Ends Done)) (sym c.in-Filled.is) never_done
+
+-- how many syncs the plan makes
+pub returns-in-Unchanged-clause-plans : goal.returns-in-Unchanged-clause-plans
+returns-in-Unchanged-clause-plans g c told r b K = tt
+
+pub returns-in-Begun-clause-plans : goal.returns-in-Begun-clause-plans
+returns-in-Begun-clause-plans g c told r b K =
+    subst (λ s. PreparePlans s r (g.D.Disk.syncs c.args.d.now) (g.D.Disk.syncs c.args.d.now) c.records_turn.result) (sym c.in-Begun.is) (not_planned (Stage.Begun c.in-Begun.txn) r (g.D.Disk.syncs c.args.d.now) (g.D.Disk.syncs c.args.d.now) c.records_turn.result tt)
+
+pub returns-in-Records-clause-plans : goal.returns-in-Records-clause-plans
+returns-in-Records-clause-plans g c told r b K =
+    subst (λ s. PreparePlans s r (g.D.Disk.syncs c.args.d.now) (g.D.Disk.syncs c.args.d.now) c.opening_turn.result) (sym c.in-Records.is) (not_planned (Stage.Records c.in-Records.txn) r (g.D.Disk.syncs c.args.d.now) (g.D.Disk.syncs c.args.d.now) c.opening_turn.result tt)
+
+pub returns-in-Locked-clause-plans : goal.returns-in-Locked-clause-plans
+returns-in-Locked-clause-plans g c =
+    let h = g.D.Disk.history c.args.d.now in
+    subst (λ s. IfOk c.plan_turn.result (λ turn. IsTrue g.D.Disk.tells → (r b : List ℕ) → KnowsStage s h r b → PreparePlans s r (g.D.Disk.syncs c.args.d.now) (g.D.Disk.syncs c.plan_turn.new.d) turn)) (sym c.in-Locked.is)
+    c.plan_turn.ensures.plans
+
+pub returns-in_ok-fill-in-Planned-clause-plans : goal.returns-in_ok-fill-in-Planned-clause-plans
+returns-in_ok-fill-in-Planned-clause-plans g c told r b K = subst (λ s. PlannedSyncs s r (g.D.Disk.syncs c.args.d.now) (g.D.Disk.syncs c.fill.new.d)) (sym c.in-Planned.is) tt
+
+pub returns-in_ok-open_gate-in-Filled-clause-plans : goal.returns-in_ok-open_gate-in-Filled-clause-plans
+returns-in_ok-open_gate-in-Filled-clause-plans g c told r b K = tt
