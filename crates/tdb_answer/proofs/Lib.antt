@@ -31,3 +31,4 @@ pub mod StopsTurning
 pub mod Sessions
 pub mod Generating
 pub mod Hearing
+pub mod Taking

@@ -14,3 +14,4 @@ pub mod Printed
 pub mod Run
 pub mod Safe
 pub mod Stops
+pub mod Takes

@@ -15,6 +15,7 @@ ghost use Rattle.tdb_answer.specs.Ending.{TaskCause, CountedBy};
 ghost use Rattle.tdb_answer.specs.Heard.{GrowthHeard, ActedHeard, ActHeard, acted_ending};
 ghost use Rattle.tdb_answer.specs.Left.{OnLeaves};
 ghost use Rattle.tdb_open.specs.Opening.{IsCheckedOn};
+ghost use Rattle.tdb_disk.specs.declared.files.Take.TheVariants as Way;
 
 use crate::commands::check::check;
 use crate::commands::delete::delete;
@@ -142,6 +143,7 @@ pub(crate) fn act_on_file<F: Files, L: Logs>(
 ) -> Ending
     requires fits { ActFits act.now }
     requires free { (other : List ℕ) → F.is_taken files.old other ≡ false }
+    requires take { F.may_take name.now Way.Existing }
     ensures cause { IsTrue F.D.tells → TaskCause (On act.now) name.now (F.held files.old name.now) (F.faults files.old) (F.faults files.new) result }
     ensures left { IsTrue F.D.tells → OnLeaves act.now (F.held files.old name.now) result (F.held files.new name.now) }
     ensures others { SameBut name.now (F.held files.old) (F.held files.new) }

@@ -19,6 +19,7 @@ ghost use Rattle.tdb_answer.specs.Left.{TaskLeaves, SameElse};
 ghost use Rattle.tdb_answer.specs.Looks.{ending_of, Began};
 ghost use Rattle.tdb_answer.specs.Printed.{TaskText, task_tells};
 ghost use Rattle.tdb_answer.specs.Stops.{StopsScripted};
+ghost use Rattle.tdb_answer.specs.Takes.{MayTake, takes};
 
 use crate::act::act_on_file;
 use crate::commands::backup::back_up;
@@ -54,6 +55,7 @@ pub fn answer_ask<F: Files, S: Source, K: Sink, L: Logs>(
 ) -> Result<Ending, Unprinted>
     requires fits { TaskFits (string_bytes ask.now.file) ask.now.task }
     requires free { (name : List ℕ) → F.is_taken files.old name ≡ false }
+    requires take { MayTake F.may_take (takes ask.now.task (string_bytes ask.now.file)) }
     ensures cause { IsTrue F.D.tells → AskEnds (input_by S.tells (S.left input.old) (S.faults input.old) (S.faults input.new)) ask.now.task (string_bytes ask.now.file) (F.held files.old) (F.faults files.old) (F.faults files.new) (ending_of result) }
     ensures left { IsTrue F.D.tells → TaskLeaves (input_by S.tells (S.left input.old) (S.faults input.old) (S.faults input.new)) ask.now.task (string_bytes ask.now.file) (F.held files.old) (ending_of result) (F.held files.new) }
     ensures others { SameElse ask.now.task (string_bytes ask.now.file) (F.held files.old) (F.held files.new) }

@@ -13,6 +13,7 @@ ghost use Rattle.tdb_open.specs.Notices.{ReadingHeard};
 ghost use Rattle.tdb_answer.specs.Heard.{FileHeard, LookHeard, ToldFor};
 ghost use Rattle.tdb_answer.specs.Looks.{LookEnds, LookText, look_tells, ending_of, Began};
 ghost use Rattle.tdb_open.specs.Opening.{CanRead, IsCheckedOn};
+ghost use Rattle.tdb_disk.specs.declared.files.Take.TheVariants as Way;
 
 use crate::commands::dump::value;
 use crate::commands::print::print_opened;
@@ -85,6 +86,7 @@ pub(crate) fn look_on_file<F: Files, K: Sink, L: Logs>(
 ) -> Result<Ending, Unprinted>
     requires fits { LookFits look.now }
     requires free { (other : List ℕ) → F.is_taken files.old other ≡ false }
+    requires take { F.may_take name.now Way.ReadOnly }
     ensures cause { IsTrue F.D.tells → TaskCause (ReadIs look.now) name.now (F.held files.old name.now) (F.faults files.old) (F.faults files.new) (ending_of result) }
     ensures left { IsTrue F.D.tells → F.held files.new name.now ≡ F.held files.old name.now }
     ensures others { SameBut name.now (F.held files.old) (F.held files.new) }

@@ -22,6 +22,8 @@ ghost use Rattle.tdb_answer.specs.Heard.{FileHeard, CopiedHeard, BackupHeard};
 ghost use Rattle.tdb_log.specs.Logs.{ToldAll};
 ghost use Rattle.tdb_open.specs.Notices.{OpeningHeard};
 ghost use Rattle.tdb_open.specs.Opening.{opened_bytes, IsCheckedOn};
+ghost use Rattle.tdb_disk.specs.declared.files.Take.TheVariants as Way;
+ghost use Rattle.tdb_answer.specs.Takes.{MayTakeEach, copies_take};
 
 use crate::ending::{Ending, Reply};
 use std::alloc::Global;
@@ -119,6 +121,7 @@ fn copy_file<D: Disk, L: Logs>(
 /// Takes a new file of this name, after it removed the one that stands there, if there is one.
 pub(crate) fn take_anew<F: Files>(alloc: Global, name: &str, files: &mut F) -> Result<F::D, Ending>
     requires free { F.is_taken files.old name.now ≡ false }
+    requires take { F.may_take name.now Way.New }
     ensures empty { IfOk result (λ disk. F.D.size disk ≡ 0) }
     ensures sound { IfOk result (λ disk. F.D.faults disk ≡ 0) }
     ensures taken { OnOk result (F.is_taken files.new name.now ≡ true) }
@@ -152,6 +155,7 @@ fn copy_to<F: Files, L: Logs>(
     requires opened { IsTrue F.D.tells → IsCheckedOn (seen (F.D.history from.old)) opened.now }
     requires short { IsTrue F.D.tells → length (seen (F.D.history from.old)) < 2 ^ 32 }
     requires free { F.is_taken files.old name.now ≡ false }
+    requires take { F.may_take name.now Way.New }
     ensures left { IsTrue F.D.tells → CopyMade (seen (F.D.history from.old)) (F.held files.old name.now) (F.held files.new name.now) result }
     ensures known { EndsBackup result }
     ensures kept { F.D.history from.new ≡ F.D.history from.old }
@@ -185,6 +189,7 @@ fn copy_disk<F: Files, L: Logs>(
     logs: &mut L,
 ) -> Result<u64, Ending>
     requires free { F.is_taken files.old name.now ≡ false }
+    requires take { F.may_take name.now Way.New }
     ensures copied { IsTrue F.D.tells → DiskCopied (F.D.history from.old) (F.D.history from.new) (F.held files.old name.now) (F.held files.new name.now) (copy_ending result) }
     ensures keys { IfOk result (λ n. IsTrue F.D.tells → n ≡ keys_in (opened_bytes (seen (F.D.history from.old)))) }
     ensures refused { IfErr result (λ e. e ≢ Replied Copied) }
@@ -216,6 +221,8 @@ fn copy_opened<F: Files, L: Logs>(
 ) -> Result<u64, Ending>
     requires differ { name.now ≢ file.now }
     requires free { (other : List ℕ) → F.is_taken files.old other ≡ false }
+    requires take_file { F.may_take file.now Way.Existing }
+    requires take_name { F.may_take name.now Way.New }
     ensures copied { IsTrue F.D.tells → FileCopied file.now (F.held files.old file.now) (F.held files.new file.now) (F.held files.old name.now) (F.held files.new name.now) (copy_ending result) }
     ensures keys { IfOk result (λ n. IsTrue F.D.tells → HasKeys (F.held files.old file.now) n) }
     ensures refused { IfErr result (λ e. e ≢ Replied Copied) }
@@ -248,6 +255,8 @@ pub(crate) fn back_up_as<F: Files, L: Logs>(
     requires new_differs { new.now ≢ file.now }
     requires both_differ { new.now ≢ copy.now }
     requires free { (other : List ℕ) → F.is_taken files.old other ≡ false }
+    requires take_file { F.may_take file.now Way.Existing }
+    requires take_new { F.may_take new.now Way.New }
     ensures done { IsTrue F.D.tells → BackedUpOne file.now copy.now new.now (F.held files.old) (F.held files.new) (F.faults files.old) (F.faults files.new) (copy_ending result) }
     ensures keys { IfOk result (λ n. IsTrue F.D.tells → HasKeys (F.held files.old file.now) n) }
     ensures refused { IfErr result (λ e. e ≢ Replied Copied) }
@@ -277,6 +286,7 @@ fn back_up_file<F: Files, L: Logs>(
 ) -> Ending
     requires suffix { suffix.now ≢ [] }
     requires free { (other : List ℕ) → F.is_taken files.old other ≡ false }
+    requires take { MayTakeEach F.may_take (copies_take suffix.now (file.now ∷ [])) }
     ensures done { IsTrue F.D.tells → BackedUpOne file.now (copy_name suffix.now file.now) (new_name suffix.now file.now) (F.held files.old) (F.held files.new) (F.faults files.old) (F.faults files.new) result }
     ensures known { EndsBackup result }
     ensures counted { CountedBy (F.faults files.old) (F.faults files.new) result }
@@ -308,6 +318,7 @@ pub(crate) fn back_up<F: Files, L: Logs>(
 ) -> Ending
     requires fits { BackupFits suffix.now (file.now ∷ more.now) }
     requires free { (other : List ℕ) → F.is_taken files.old other ≡ false }
+    requires take { MayTakeEach F.may_take (copies_take suffix.now (file.now ∷ more.now)) }
     ensures done { IsTrue F.D.tells → BackedUp suffix.now (file.now ∷ more.now) (F.held files.old) (F.held files.new) (F.faults files.old) (F.faults files.new) result }
     ensures known { EndsBackup result }
     ensures counted { CountedBy (F.faults files.old) (F.faults files.new) result }

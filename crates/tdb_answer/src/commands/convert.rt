@@ -14,6 +14,7 @@ ghost use Rattle.tdb_answer.specs.Commands.Rewriting.{anew_ending};
 ghost use Rattle.tdb_answer.specs.Ending.{CountedBy};
 ghost use Rattle.tdb_answer.specs.Heard.{FileHeard, ConvertHeard, ToldFor};
 ghost use Rattle.tdb_answer.specs.Looks.{ending_of, Began, StandsBefore};
+ghost use Rattle.tdb_disk.specs.declared.files.Take.TheVariants as Way;
 
 use crate::commands::rewriting::write_to;
 use crate::ending::{Ending, Reply, Unprinted};
@@ -39,6 +40,7 @@ fn convert_to<F: Files>(
     requires some { 0 < made.form.size }
     requires limit { made.limit ≤ 4294963200 }
     requires free { F.is_taken files.old new.now ≡ false }
+    requires take { F.may_take new.now Way.New }
     ensures made { OnOk result (IsTrue F.D.tells → IsConverted made prefix.now (seen (F.D.history from.old)) (F.held files.old new.now) (F.held files.new new.now)) }
     ensures refused { IfErr result (λ e. IsTrue F.D.tells → ConvertLeft made prefix.now (seen (F.D.history from.old)) new.now (F.held files.old new.now) e (F.held files.new new.now)) }
     ensures known { IfErr result EndsUnconverted }
@@ -77,6 +79,7 @@ fn convert_disk<F: Files, L: Logs>(
     requires some { 0 < made.form.size }
     requires limit { made.limit ≤ 4294963200 }
     requires free { F.is_taken files.old new.now ≡ false }
+    requires take { F.may_take new.now Way.New }
     ensures made { OnOk result (IsTrue F.D.tells → IsConverted made prefix.now (seen (F.D.history from.old)) (F.held files.old new.now) (F.held files.new new.now)) }
     ensures refused { IfErr result (λ e. IsTrue F.D.tells → ConvertLeft made prefix.now (seen (F.D.history from.old)) new.now (F.held files.old new.now) e (F.held files.new new.now)) }
     ensures known { IfErr result EndsUnconverted }
@@ -107,6 +110,8 @@ fn convert_file<F: Files, L: Logs>(
     requires some { 0 < made.form.size }
     requires limit { made.limit ≤ 4294963200 }
     requires free { (other : List ℕ) → F.is_taken files.old other ≡ false }
+    requires take_file { F.may_take file.now Way.ReadOnly }
+    requires take_new { F.may_take new.now Way.New }
     ensures made { OnOk result (IsTrue F.D.tells → WasConverted made prefix.now (F.held files.old file.now) (F.held files.old new.now) (F.held files.new new.now)) }
     ensures refused { IfErr result (λ e. IsTrue F.D.tells → ConvertLeaves made prefix.now file.now new.now (F.held files.old file.now) (F.held files.old new.now) e (F.held files.new new.now)) }
     ensures kept { IsTrue F.D.tells → F.held files.new file.now ≡ F.held files.old file.now }
@@ -167,6 +172,8 @@ pub(crate) fn convert<F: Files, K: Sink, L: Logs>(
     requires some { 0 < made.form.size }
     requires limit { made.limit ≤ 4294963200 }
     requires free { (other : List ℕ) → F.is_taken files.old other ≡ false }
+    requires take_file { F.may_take file.now Way.ReadOnly }
+    requires take_new { F.may_take new.now Way.New }
     ensures left { IsTrue F.D.tells → ConvertLeaves made prefix.now file.now new.now (F.held files.old file.now) (F.held files.old new.now) (ending_of result) (F.held files.new new.now) }
     ensures kept { IsTrue F.D.tells → F.held files.new file.now ≡ F.held files.old file.now }
     ensures asked { ending_of result ≢ Usage }

@@ -5,6 +5,7 @@ ghost use Rattle.tdb_disk.specs.Count.{Rose};
 ghost use Rattle.tdb_disk.specs.Names.{SameBut};
 ghost use Rattle.tdb_answer.specs.Commands.Create.{CreateCause, CreateLeaves};
 ghost use Rattle.tdb_answer.specs.declared.commands.create.Creation.TheVariants.{Device as IsDevice};
+ghost use Rattle.tdb_disk.specs.declared.files.Take.TheVariants as Way;
 
 use std::alloc::Global;
 use tdb_cmdline::NewFile;
@@ -37,6 +38,7 @@ pub(crate) fn create_file<F: Files>(
 ) -> Creation
     requires some { 0 < file.form.size }
     requires free { (other : List ℕ) → F.is_taken files.old other ≡ false }
+    requires take { F.may_take name.now Way.New }
     ensures cause { IsTrue F.D.tells → CreateCause file (F.held files.old name.now) (F.faults files.old) (F.faults files.new) result }
     ensures device { result ≡ IsDevice → Rose (F.faults files.old) (F.faults files.new) }
     ensures sound { (result ≡ IsDevice → ⊥) → F.faults files.new ≡ F.faults files.old }

@@ -12,6 +12,7 @@ ghost use Rattle.tdb_answer.specs.Commands.Generate as G;
 ghost use Rattle.tdb_answer.specs.Commands.Restore.{of_input};
 ghost use Rattle.tdb_answer.specs.Ending.{CountedIf};
 ghost use Rattle.tdb_answer.specs.Reads.{GenCause};
+ghost use Rattle.tdb_disk.specs.declared.files.Take.TheVariants as Way;
 
 use crate::commands::restore::{HEADER, NEW_FORM};
 use crate::ending::{Ending, Reply};
@@ -98,6 +99,7 @@ pub(crate) fn generate_file<F: Files, L: Logs>(
     logs: &mut L,
 ) -> Ending
     requires free { (other : List ℕ) → F.is_taken files.old other ≡ false }
+    requires take { F.may_take name.now Way.New }
     ensures cause { IsTrue F.D.tells → GenCause commands seed name.now (F.held files.old name.now) (F.faults files.old) (F.faults files.new) result }
     ensures left { IsTrue F.D.tells → G.GenLeaves commands seed (F.held files.old name.now) result (F.held files.new name.now) }
     ensures others { SameBut name.now (F.held files.old) (F.held files.new) }

@@ -21,6 +21,7 @@ ghost use Rattle.tdb_answer.specs.Commands.Restore.{of_input};
 ghost use Rattle.tdb_answer.specs.Commands.Rewriting.{made_form, IsNotWritten, IsWrittenAnew, HoldsAnew, NotWrittenTo, EndsUnwritten, anew_ending};
 ghost use Rattle.tdb_answer.specs.Ending.{CountedBy};
 ghost use Rattle.tdb_answer.specs.Looks.{ending_of, Began, StandsBefore};
+ghost use Rattle.tdb_disk.specs.declared.files.Take.TheVariants as Way;
 
 use crate::commands::rewriting::set_sequence;
 use crate::ending::{Ending, Reply, Unprinted};
@@ -172,6 +173,7 @@ fn mend_to<F: Files>(
     requires chains { 0 < (mended_header damaged.old).hash_size }
     requires most { file_length damaged.old ≤ 4294963200 }
     requires free { F.is_taken files.old new.now ≡ false }
+    requires take { F.may_take new.now Way.New }
     ensures made { OnOk result (IsTrue F.D.tells → IsMended (seen (F.D.history from.old)) (F.held files.old new.now) (F.held files.new new.now)) }
     ensures refused { IfErr result (λ e. IsTrue F.D.tells → MendLeft (seen (F.D.history from.old)) new.now (F.held files.old new.now) e (F.held files.new new.now)) }
     ensures known { IfErr result EndsUnmended }
@@ -201,6 +203,7 @@ fn mend_disk<F: Files>(
     files: &mut F,
 ) -> Result<u64, Ending>
     requires free { F.is_taken files.old new.now ≡ false }
+    requires take { F.may_take new.now Way.New }
     ensures made { OnOk result (IsTrue F.D.tells → IsMended (seen (F.D.history from.old)) (F.held files.old new.now) (F.held files.new new.now)) }
     ensures changed { IfOk result (λ n. IsTrue F.D.tells → n ≡ bytes_mended (seen (F.D.history from.old))) }
     ensures refused { IfErr result (λ e. IsTrue F.D.tells → MendLeft (seen (F.D.history from.old)) new.now (F.held files.old new.now) e (F.held files.new new.now)) }
@@ -227,6 +230,8 @@ fn mend_disk<F: Files>(
 fn mend_file<F: Files>(alloc: Global, file: &str, new: &str, files: &mut F) -> Result<u64, Ending>
     requires differ { new.now ≢ file.now }
     requires free { (other : List ℕ) → F.is_taken files.old other ≡ false }
+    requires take_file { F.may_take file.now Way.ReadOnly }
+    requires take_new { F.may_take new.now Way.New }
     ensures made { OnOk result (IsTrue F.D.tells → WasMended (F.held files.old file.now) (F.held files.old new.now) (F.held files.new new.now)) }
     ensures told { IfOk result (λ n. IsTrue F.D.tells → (e : EndingIs) (text : List ℕ) → StandsBefore (mended_line n) e text → MendText (F.held files.old file.now) e text) }
     ensures refused { IfErr result (λ e. IsTrue F.D.tells → MendLeaves file.now new.now (F.held files.old file.now) (F.held files.old new.now) e (F.held files.new new.now)) }
@@ -335,6 +340,8 @@ pub(crate) fn mend<F: Files, K: Sink>(
 ) -> Result<Ending, Unprinted>
     requires differ { new.now ≢ file.now }
     requires free { (other : List ℕ) → F.is_taken files.old other ≡ false }
+    requires take_file { F.may_take file.now Way.ReadOnly }
+    requires take_new { F.may_take new.now Way.New }
     ensures left { IsTrue F.D.tells → MendLeaves file.now new.now (F.held files.old file.now) (F.held files.old new.now) (ending_of result) (F.held files.new new.now) }
     ensures kept { IsTrue F.D.tells → StaysSynced (F.held files.old file.now) (F.held files.new file.now) }
     ensures asked { ending_of result ≢ Usage }
@@ -368,6 +375,7 @@ fn look_damaged<D: Disk>(alloc: Global, disk: &mut D) -> Option<bool>
 /// memory was wanting. The file stays as it is, byte for byte, and is synced.
 pub fn can_be_mended<F: Files>(alloc: Global, file: &str, files: &mut F) -> Option<bool>
     requires free { (other : List ℕ) → F.is_taken files.old other ≡ false }
+    requires take { F.may_take file.now Way.ReadOnly }
     ensures mends { IfSome result (λ b. IsTrue F.D.tells → (h : History) × (F.held files.old file.now ≡ Some h) × MendsSo (seen h) b) }
     ensures kept { IsTrue F.D.tells → StaysSynced (F.held files.old file.now) (F.held files.new file.now) }
     ensures others { SameBut file.now (F.held files.old) (F.held files.new) }

@@ -9,6 +9,7 @@ ghost use Rattle.tdb_answer.specs.Commands.Merge.{CountedPair, EndsMerge, MergeI
 ghost use Rattle.tdb_answer.specs.Commands.Restore.{of_input};
 ghost use Rattle.tdb_answer.specs.Ending.{CountedIf};
 ghost use Rattle.tdb_answer.specs.Heard.{MergeHeard};
+ghost use Rattle.tdb_disk.specs.declared.files.Take.TheVariants as Way;
 
 use crate::commands::session::options_within;
 use crate::ending::{Ending, Reply};
@@ -75,6 +76,7 @@ fn merge_into<F: Files, L: Logs>(
     requires opened { IsTrue F.D.tells → IsCheckedOn (seen (F.D.history from.old)) opened.now }
     requires limit { limit ≤ 4294963200 }
     requires free { F.is_taken files.old into.now ≡ false }
+    requires take { F.may_take into.now Way.Existing }
     ensures left { IsTrue F.D.tells → MergeInto limit prefix.now (seen (F.D.history from.old)) into.now (F.held files.old into.now) (F.held files.new into.now) result }
     ensures known { EndsMerge result }
     ensures kept { F.D.history from.new ≡ F.D.history from.old }
@@ -105,6 +107,7 @@ fn merge_disk<F: Files, L: Logs>(
 ) -> Ending
     requires limit { limit ≤ 4294963200 }
     requires free { F.is_taken files.old into.now ≡ false }
+    requires take { F.may_take into.now Way.Existing }
     ensures left { IsTrue F.D.tells → (file : List ℕ) → MergeLeaves limit prefix.now file into.now (Some (F.D.history from.old)) (F.held files.old into.now) result (F.held files.new into.now) }
     ensures known { EndsMerge result }
     ensures kept { F.D.history from.new ≡ F.D.history from.old }
@@ -133,6 +136,8 @@ pub(crate) fn merge_file<F: Files, L: Logs>(
     requires differ { into.now ≢ file.now }
     requires limit { limit ≤ 4294963200 }
     requires free { (other : List ℕ) → F.is_taken files.old other ≡ false }
+    requires take_file { F.may_take file.now Way.ReadOnly }
+    requires take_into { F.may_take into.now Way.Existing }
     ensures left { IsTrue F.D.tells → MergeLeaves limit prefix.now file.now into.now (F.held files.old file.now) (F.held files.old into.now) result (F.held files.new into.now) }
     ensures kept { IsTrue F.D.tells → F.held files.new file.now ≡ F.held files.old file.now }
     ensures asked { result ≢ Usage }

@@ -9,6 +9,7 @@ ghost use Rattle.tdb_answer.specs.Commands.Moving.{EndsMove, MoveFrom, MoveInto,
 ghost use Rattle.tdb_answer.specs.Commands.Restore.{of_input};
 ghost use Rattle.tdb_answer.specs.Ending.{CountedIf};
 ghost use Rattle.tdb_answer.specs.Heard.{MoveHeard};
+ghost use Rattle.tdb_disk.specs.declared.files.Take.TheVariants as Way;
 
 use crate::commands::session::options_within;
 use crate::ending::{Ending, Reply};
@@ -73,6 +74,7 @@ fn move_to_name<F: Files, L: Logs>(
     requires short { length key.now < 2 ^ 32 }
     requires limit { limit ≤ 4294963200 }
     requires free { F.is_taken files.old into.now ≡ false }
+    requires take { F.may_take into.now Way.Existing }
     ensures left { IsTrue F.D.tells → MoveInto limit key.now into.now from.history (F.D.history result.0) (F.held files.old into.now) (F.held files.new into.now) result.1 }
     ensures known { EndsMove result.1 }
     ensures counted { CountedPair F.D.tells from.faults (F.D.faults result.0) (F.faults files.old) (F.faults files.new) result.1 }
@@ -102,6 +104,7 @@ fn move_from_disk<F: Files, L: Logs>(
     requires short { length key.now < 2 ^ 32 }
     requires limit { limit ≤ 4294963200 }
     requires free { F.is_taken files.old into.now ≡ false }
+    requires take { F.may_take into.now Way.Existing }
     ensures left { IsTrue F.D.tells → MoveFrom limit key.now into.now (F.D.history disk) (F.D.history result.0) (F.held files.old into.now) (F.held files.new into.now) result.1 }
     ensures known { EndsMove result.1 }
     ensures counted { CountedPair F.D.tells (F.D.faults disk) (F.D.faults result.0) (F.faults files.old) (F.faults files.new) result.1 }
@@ -131,6 +134,8 @@ pub(crate) fn move_file<F: Files, L: Logs>(
     requires short { length key.now < 2 ^ 32 }
     requires limit { limit ≤ 4294963200 }
     requires free { (other : List ℕ) → F.is_taken files.old other ≡ false }
+    requires take_file { F.may_take file.now Way.Existing }
+    requires take_into { F.may_take into.now Way.Existing }
     ensures left { IsTrue F.D.tells → MoveLeaves limit key.now file.now into.now (F.held files.old file.now) (F.held files.new file.now) (F.held files.old into.now) (F.held files.new into.now) result }
     ensures asked { result ≢ Usage }
     ensures unread { of_input result ≡ false }

@@ -18,6 +18,7 @@ ghost use Rattle.tdb_open.specs.Notices.{BelowHeard};
 ghost use Rattle.tdb_answer.specs.Heard.{FileHeard, PrintHeard, ToldFor};
 ghost use Rattle.tdb_answer.specs.Looks.{StandsBefore, ending_of, Began};
 ghost use Rattle.tdb_open.specs.Opening.{IsCheckedOn, opened_bytes};
+ghost use Rattle.tdb_disk.specs.declared.files.Take.TheVariants as Way;
 
 use crate::ending::{Ending, Reply, Unprinted};
 use std::alloc::Global;
@@ -116,6 +117,7 @@ pub(crate) fn print_on_file<F: Files, K: Sink, L: Logs>(
     logs: &mut L,
 ) -> Result<Ending, Unprinted>
     requires free { (other : List ℕ) → F.is_taken files.old other ≡ false }
+    requires take { F.may_take name.now Way.Existing }
     ensures cause { IsTrue F.D.tells → TaskCause (Print printout limit) name.now (F.held files.old name.now) (F.faults files.old) (F.faults files.new) (ending_of result) }
     ensures left { IsTrue F.D.tells → PrintLeaves limit (F.held files.old name.now) (ending_of result) (F.held files.new name.now) }
     ensures others { SameBut name.now (F.held files.old) (F.held files.new) }

@@ -14,6 +14,7 @@ ghost use Rattle.tdb_answer.specs.Commands.Restore.{of_input};
 ghost use Rattle.tdb_answer.specs.Commands.Rewriting.{HoldsAnew, anew_ending};
 ghost use Rattle.tdb_answer.specs.Ending.{CountedBy};
 ghost use Rattle.tdb_answer.specs.Heard.{FileHeard, PrintHeard, ToldFor};
+ghost use Rattle.tdb_disk.specs.declared.files.Take.TheVariants as Way;
 
 use crate::commands::backup::take_anew;
 use crate::commands::rewriting::write_to;
@@ -38,6 +39,7 @@ fn repack_to<F: Files>(
     requires short { IsTrue F.D.tells → length (seen (F.D.history from.old)) < 2 ^ 32 }
     requires limit { limit ≤ 4294963200 }
     requires free { F.is_taken files.old name.now ≡ false }
+    requires take { F.may_take name.now Way.New }
     ensures made { OnOk result (IsTrue F.D.tells → let img = seen (F.D.history from.old) in HoldsAnew img [] (form_of img) (F.held files.new name.now)) }
     ensures refused { IfErr result (λ e. IsTrue F.D.tells → NewUnmade limit (seen (F.D.history from.old)) e (F.held files.old name.now) (F.held files.new name.now)) }
     ensures asked { IfErr result (λ e. e ≢ Usage) }
@@ -79,6 +81,7 @@ fn repack_disk<F: Files, L: Logs>(
 ) -> Result<(), Ending>
     requires limit { limit ≤ 4294963200 }
     requires free { F.is_taken files.old name.now ≡ false }
+    requires take { F.may_take name.now Way.New }
     ensures made { OnOk result (IsTrue F.D.tells → NewStands limit (F.D.history from.old) (F.D.history from.new) (F.held files.new name.now)) }
     ensures refused { IfErr result (λ e. IsTrue F.D.tells → NotRepacked limit (F.D.history from.old) e (F.D.history from.new) (F.held files.old name.now) (F.held files.new name.now)) }
     ensures asked { IfErr result (λ e. e ≢ Usage) }
@@ -106,6 +109,8 @@ fn repack_opened<F: Files, L: Logs>(
     requires differ { new.now ≢ file.now }
     requires limit { limit ≤ 4294963200 }
     requires free { (other : List ℕ) → F.is_taken files.old other ≡ false }
+    requires take_file { F.may_take file.now Way.Existing }
+    requires take_new { F.may_take new.now Way.New }
     ensures made { OnOk result (IsTrue F.D.tells → NewHeld limit (F.held files.old file.now) (F.held files.new file.now) (F.held files.new new.now)) }
     ensures refused { IfErr result (λ e. IsTrue F.D.tells → RepackStopped limit file.now (F.held files.old file.now) (F.held files.new file.now) (F.held files.old new.now) (F.held files.new new.now) e) }
     ensures asked { IfErr result (λ e. e ≢ Usage) }
@@ -136,6 +141,8 @@ fn repack_at<F: Files, L: Logs>(
     requires differ { new.now ≢ file.now }
     requires limit { limit ≤ 4294963200 }
     requires free { (other : List ℕ) → F.is_taken files.old other ≡ false }
+    requires take_file { F.may_take file.now Way.Existing }
+    requires take_new { F.may_take new.now Way.New }
     ensures left { IsTrue F.D.tells → RepackLeft limit file.now (F.held files.old file.now) (F.held files.new file.now) (F.held files.old new.now) (F.held files.new new.now) result }
     ensures asked { result ≢ Usage }
     ensures unread { of_input result ≡ false }
@@ -165,6 +172,8 @@ pub(crate) fn repack<F: Files, L: Logs>(
 ) -> Ending
     requires limit { limit ≤ 4294963200 }
     requires free { (other : List ℕ) → F.is_taken files.old other ≡ false }
+    requires take_file { F.may_take file.now Way.Existing }
+    requires take_new { F.may_take (temporary_name file.now) Way.New }
     ensures left { IsTrue F.D.tells → RepackLeaves limit file.now (F.held files.old) result (F.held files.new) }
     ensures asked { result ≢ Usage }
     ensures unread { of_input result ≡ false }

@@ -15,6 +15,7 @@ ghost use Rattle.tdb_answer.specs.Commands.Rescue.{CanRescue, RescueHalts, Rescu
 ghost use Rattle.tdb_answer.specs.Commands.Restore.{of_input};
 ghost use Rattle.tdb_answer.specs.Ending.{TaskCause, CountedBy};
 ghost use Rattle.tdb_answer.specs.Looks.{StandsBefore, ending_of, Began};
+ghost use Rattle.tdb_disk.specs.declared.files.Take.TheVariants as Way;
 
 use crate::ending::{Ending, Reply, Unprinted};
 use std::alloc::Global;
@@ -108,6 +109,7 @@ pub(crate) fn rescue_on_file<F: Files, K: Sink>(
     output: &mut K,
 ) -> Result<Ending, Unprinted>
     requires free { (other : List ℕ) → F.is_taken files.old other ≡ false }
+    requires take { F.may_take name.now Way.ReadOnly }
     ensures cause { IsTrue F.D.tells → TaskCause Rescue name.now (F.held files.old name.now) (F.faults files.old) (F.faults files.new) (ending_of result) }
     ensures left { IsTrue F.D.tells → F.held files.new name.now ≡ F.held files.old name.now }
     ensures others { SameBut name.now (F.held files.old) (F.held files.new) }

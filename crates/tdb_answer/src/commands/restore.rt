@@ -18,6 +18,7 @@ ghost use Rattle.tdb_answer.specs.Ending.{CountedBy};
 ghost use Rattle.tdb_answer.specs.Input.{input_by};
 ghost use Rattle.tdb_answer.specs.Left.{RestoreLeaves};
 ghost use Rattle.tdb_answer.specs.Reads.{AskCause};
+ghost use Rattle.tdb_disk.specs.declared.files.Take.TheVariants as Way;
 
 use crate::ending::{Ending, Reply};
 use std::alloc::Global;
@@ -122,6 +123,7 @@ pub(crate) fn restore_file<F: Files, S: Source, L: Logs>(
 ) -> Ending
     requires limit { limit ≤ 4294963200 }
     requires free { (other : List ℕ) → F.is_taken files.old other ≡ false }
+    requires take { F.may_take name.now Way.New }
     ensures cause { IsTrue F.D.tells → AskCause (input_by S.tells (S.left input.old) (S.faults input.old) (S.faults input.new)) (Restore limit) name.now (F.held files.old name.now) (F.faults files.old) (F.faults files.new) result }
     ensures left { IsTrue F.D.tells → RestoreLeaves limit (input_by S.tells (S.left input.old) (S.faults input.old) (S.faults input.new)) (F.held files.old name.now) result (F.held files.new name.now) }
     ensures others { SameBut name.now (F.held files.old) (F.held files.new) }

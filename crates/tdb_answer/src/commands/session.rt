@@ -11,6 +11,7 @@ ghost use Rattle.tdb_answer.specs.Ending.{CountedIf};
 ghost use Rattle.tdb_answer.specs.Input.{input_by};
 ghost use Rattle.tdb_answer.specs.Looks.{ending_of, Began};
 ghost use Rattle.tdb_answer.specs.Reads.{AskCause};
+ghost use Rattle.tdb_disk.specs.declared.files.Take.TheVariants as Way;
 
 use crate::ending::{Ending, Reply, Unprinted};
 use std::alloc::Global;
@@ -87,6 +88,7 @@ pub(crate) fn session_on_file<F: Files, S: Source, K: Sink, L: Logs>(
 ) -> Result<Ending, Unprinted>
     requires limit { limit ≤ 4294963200 }
     requires free { (other : List ℕ) → F.is_taken files.old other ≡ false }
+    requires take { F.may_take name.now Way.Existing }
     ensures cause { IsTrue F.D.tells → AskCause (input_by S.tells (S.left input.old) (S.faults input.old) (S.faults input.new)) (Session limit) name.now (F.held files.old name.now) (F.faults files.old) (F.faults files.new) (ending_of result) }
     ensures left { IsTrue F.D.tells → StaysThere (F.held files.old name.now) (F.held files.new name.now) }
     ensures others { SameBut name.now (F.held files.old) (F.held files.new) }

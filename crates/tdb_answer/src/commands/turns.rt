@@ -1,6 +1,6 @@
 // The command that takes the plays of a script over a file, and prints their report.
 
-ghost use Rattle.std.specs.Prelude.{◌≡◌, ◌≤◌, ◌&&◌, ℕ, List, Ok, false, IsTrue};
+ghost use Rattle.std.specs.Prelude.{◌≡◌, ◌≤◌, ◌&&◌, ℕ, List, Ok, false, IsTrue, if◌then◌else◌};
 ghost use Rattle.tdb_disk.specs.Count.{HasCause, Rose};
 ghost use Rattle.tdb_disk.specs.History.{seen};
 ghost use Rattle.tdb_disk.specs.Names.{SameBut};
@@ -20,6 +20,7 @@ ghost use Rattle.tdb_answer.specs.Output.{output_by};
 ghost use Rattle.tdb_answer.specs.Playing.{end_told, PlayedFile, PlayedAll, PlaysCause};
 ghost use Rattle.tdb_answer.specs.Reads.{AskCause};
 ghost use Rattle.tdb_answer.specs.Stops.{StopsHeld, StopsOfTurns, StopsScripted};
+ghost use Rattle.tdb_disk.specs.declared.files.Take.TheVariants as Way;
 
 use crate::ending::{Ending, Reply, Unprinted};
 use crate::playing::play_all;
@@ -85,6 +86,7 @@ fn play_on_file<F: Files, K: Sink, L: Logs>(
     requires limit { options.now.limit ≤ 4294963200 }
     requires playable { ArePlayable plays.now }
     requires free { (other : List ℕ) → F.is_taken files.old other ≡ false }
+    requires take { F.may_take name.now (if options.now.read_only then Way.ReadOnly else Way.Existing) }
     ensures cause { IsTrue F.D.tells → PlaysCause options.now name.now (F.held files.old name.now) (F.faults files.old) (F.faults files.new) (ending_of result) }
     ensures left { IsTrue F.D.tells → T.TurnsLeave options.now (F.held files.old name.now) (ending_of result) (F.held files.new name.now) }
     ensures stops { IsTrue F.D.tells → StopsHeld options.now plays.now (F.held files.old name.now) (F.held files.new name.now) K.tells (result ≡ Ok (Replied Played)) (Rose (F.faults files.old) (F.faults files.new) → ⊥) (K.written output.old) (K.written output.new) }
@@ -126,6 +128,7 @@ pub(crate) fn turns_on_file<F: Files, S: Source, K: Sink, L: Logs>(
 ) -> Result<Ending, Unprinted>
     requires limit { options.now.limit ≤ 4294963200 }
     requires free { (other : List ℕ) → F.is_taken files.old other ≡ false }
+    requires take { F.may_take name.now (if options.now.read_only then Way.ReadOnly else Way.Existing) }
     ensures cause { IsTrue F.D.tells → AskCause (input_by S.tells (S.left input.old) (S.faults input.old) (S.faults input.new)) (Turns options.now) name.now (F.held files.old name.now) (F.faults files.old) (F.faults files.new) (ending_of result) }
     ensures left { IsTrue F.D.tells → T.TurnsLeave options.now (F.held files.old name.now) (ending_of result) (F.held files.new name.now) }
     ensures stops { IsTrue F.D.tells → StopsScripted (input_by S.tells (S.left input.old) (S.faults input.old) (S.faults input.new)) options.now (F.held files.old name.now) (F.held files.new name.now) K.tells (result ≡ Ok (Replied Played)) (Rose (F.faults files.old) (F.faults files.new) → ⊥) (K.written output.old) (K.written output.new) }

@@ -12,6 +12,8 @@ ghost use Rattle.tdb_answer.specs.Commands.Verify as V;
 ghost use Rattle.tdb_answer.specs.Ending.{CountedBy};
 ghost use Rattle.tdb_answer.specs.Heard.{OpenHeard, CopiedHeard, CountHeard, VerifyHeard, count_ending};
 ghost use Rattle.tdb_answer.specs.Looks.{ending_of, Began};
+ghost use Rattle.tdb_disk.specs.declared.files.Take.TheVariants as Way;
+ghost use Rattle.tdb_answer.specs.Takes.{MayTakeEach, verified_take};
 
 use crate::commands::backup::back_up_as;
 use crate::ending::{Ending, Reply, Unprinted};
@@ -117,6 +119,7 @@ fn count_keys<F: Files, L: Logs>(
     logs: &mut L,
 ) -> Result<u64, Ending>
     requires free { (other : List ℕ) → F.is_taken files.old other ≡ false }
+    requires take { F.may_take file.now Way.Existing }
     ensures counted { IfOk result (λ n. IsTrue F.D.tells → V.OwnKeys (F.held files.old file.now) (F.held files.new file.now) n) }
     ensures unopened { IfErr result (λ e. IsTrue F.D.tells → V.NotOpened file.now (F.held files.old file.now) (F.held files.new file.now) e) }
     ensures known { IfErr result V.EndsUnverified }
@@ -148,6 +151,8 @@ fn restore_file<F: Files, L: Logs>(
     requires some { suffix.now ≢ [] }
     requires other { suffix.now ≢ codes ".tmp" }
     requires free { (other : List ℕ) → F.is_taken files.old other ≡ false }
+    requires take_copy { F.may_take (copy_name suffix.now file.now) Way.Existing }
+    requires take_new { F.may_take (temporary_name file.now) Way.New }
     ensures done { IsTrue F.D.tells → BackedUpOne (copy_name suffix.now file.now) file.now (temporary_name file.now) (F.held files.old) (F.held files.new) (F.faults files.old) (F.faults files.new) (copy_ending result) }
     ensures keys { IfOk result (λ n. IsTrue F.D.tells → HasKeys (F.held files.old (copy_name suffix.now file.now)) n) }
     ensures known { IfErr result V.EndsUnverified }
@@ -177,6 +182,7 @@ fn find_keys<F: Files, K: Sink, L: Logs>(
     requires some { suffix.now ≢ [] }
     requires other { suffix.now ≢ codes ".tmp" }
     requires free { (other : List ℕ) → F.is_taken files.old other ≡ false }
+    requires take { MayTakeEach F.may_take (verified_take suffix.now (file.now ∷ [])) }
     ensures found { IfOk result (λ n. IsTrue F.D.tells → V.KeysFound K.tells file.now (V.at_names suffix.now file.now (F.held files.old)) (V.at_names suffix.now file.now (F.held files.new)) (K.written output.old) (K.written output.new) n) }
     ensures unfound { IfErr result (λ u. IsTrue F.D.tells → V.FileUntold K.tells suffix.now file.now (V.at_names suffix.now file.now (F.held files.old)) (V.at_names suffix.now file.now (F.held files.new)) (K.written output.old) (K.written output.new) u) }
     ensures known { IfErr result V.IsKnown }
@@ -210,6 +216,7 @@ fn verify_file<F: Files, K: Sink, L: Logs>(
     requires some { suffix.now ≢ [] }
     requires other { suffix.now ≢ codes ".tmp" }
     requires free { (other : List ℕ) → F.is_taken files.old other ≡ false }
+    requires take { MayTakeEach F.may_take (verified_take suffix.now (file.now ∷ [])) }
     ensures told { OnOk result (IsTrue F.D.tells → V.FileTold K.tells file.now (V.at_names suffix.now file.now (F.held files.old)) (V.at_names suffix.now file.now (F.held files.new)) (K.written output.old) (K.written output.new)) }
     ensures untold { IfErr result (λ u. IsTrue F.D.tells → V.FileUntold K.tells suffix.now file.now (V.at_names suffix.now file.now (F.held files.old)) (V.at_names suffix.now file.now (F.held files.new)) (K.written output.old) (K.written output.new) u) }
     ensures known { IfErr result V.IsKnown }
@@ -235,6 +242,7 @@ fn verify_files<F: Files, K: Sink, L: Logs>(
 ) -> Result<(), Unverified>
     requires fits { VerifyFits suffix.now (file.now ∷ more.now) }
     requires free { (other : List ℕ) → F.is_taken files.old other ≡ false }
+    requires take { MayTakeEach F.may_take (verified_take suffix.now (file.now ∷ more.now)) }
     ensures told { OnOk result (IsTrue F.D.tells → V.AllTold K.tells suffix.now (file.now ∷ more.now) (F.held files.old) (F.held files.new) (K.written output.old) (K.written output.new)) }
     ensures untold { IfErr result (λ u. IsTrue F.D.tells → V.SomeUntold K.tells suffix.now (file.now ∷ more.now) (F.held files.old) (F.held files.new) (K.written output.old) (K.written output.new) u) }
     ensures known { IfErr result V.IsKnown }
@@ -265,6 +273,7 @@ pub(crate) fn verify<F: Files, K: Sink, L: Logs>(
 ) -> Result<Ending, Unprinted>
     requires fits { VerifyFits suffix.now (file.now ∷ more.now) }
     requires free { (other : List ℕ) → F.is_taken files.old other ≡ false }
+    requires take { MayTakeEach F.may_take (verified_take suffix.now (file.now ∷ more.now)) }
     ensures cause { IsTrue F.D.tells → V.VerifyCause suffix.now (file.now ∷ more.now) (F.held files.old) (F.faults files.old) (F.faults files.new) (ending_of result) }
     ensures left { IsTrue F.D.tells → V.VerifyLeaves suffix.now (file.now ∷ more.now) (F.held files.old) (ending_of result) (F.held files.new) }
     ensures began { IsTrue (K.tells && F.D.tells) → Began (V.VerifyText suffix.now (file.now ∷ more.now) (F.held files.old)) (K.written output.old) (K.written output.new) result }

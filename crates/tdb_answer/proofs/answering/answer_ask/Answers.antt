@@ -34,6 +34,9 @@ use Rattle.tdb_answer.proofs.Converting.{convert_ends}
 use Rattle.tdb_answer.proofs.Mending.{mend_ends}
 use Rattle.tdb_answer.proofs.Merging.{merge_ends}
 use Rattle.tdb_answer.proofs.Moving.{move_ends}
+use Rattle.tdb_disk.specs.declared.files.Take.TheVariants.{Existing, New}
+use Rattle.tdb_answer.specs.Takes.{MayTakeEach, copies_take, verified_take}
+use Rattle.tdb_answer.proofs.Taking.{named}
 use Rattle.tdb_answer.proofs.answering.answer_ask.Goals as goal
 
 -- why a file was made, or wasn't
@@ -418,3 +421,71 @@ returns-in-Turns-clause-stops g c options is told =
     subst (λ (q : List ℕ × Options). StopsScripted input q.1 (g.F.Files.held c.args.files.now q.0) (g.F.Files.held c.turns_on_file.new.files q.0) g.K.Sink.tells (c.turns_on_file.result ≡ Ok (Replied Played))
     (Rose (g.F.Files.faults c.args.files.now) (g.F.Files.faults c.turns_on_file.new.files) → ⊥) (g.K.Sink.written c.args.output.now) (g.K.Sink.written c.turns_on_file.new.output))
     (λ j. (c.as_str-name.ensures.value j, same j)) (c.turns_on_file.ensures.stops told)
+
+-- the files that a task takes may be taken so
+pub act_on_file-requires-clause-take : goal.act_on_file-requires-clause-take
+act_on_file-requires-clause-take g c = (named g.F.Files.may_take c.in-On.is c.as_str-name.ensures.value c.requires.take).0
+
+pub look_on_file-requires-clause-take : goal.look_on_file-requires-clause-take
+look_on_file-requires-clause-take g c = (named g.F.Files.may_take c.in-Read.is c.as_str-name.ensures.value c.requires.take).0
+
+pub rescue_on_file-requires-clause-take : goal.rescue_on_file-requires-clause-take
+rescue_on_file-requires-clause-take g c = (named g.F.Files.may_take c.in-Rescue.is c.as_str-name.ensures.value c.requires.take).0
+
+pub print_on_file-requires-clause-take : goal.print_on_file-requires-clause-take
+print_on_file-requires-clause-take g c = (named g.F.Files.may_take c.in-Print.is c.as_str-name.ensures.value c.requires.take).0
+
+pub create_file-creation-requires-clause-take : goal.create_file-creation-requires-clause-take
+create_file-creation-requires-clause-take g c = (named g.F.Files.may_take c.in-Create.is c.as_str-name.ensures.value c.requires.take).0
+
+pub restore_file-requires-clause-take : goal.restore_file-requires-clause-take
+restore_file-requires-clause-take g c = (named g.F.Files.may_take c.in-Restore.is c.as_str-name.ensures.value c.requires.take).0
+
+pub session_on_file-requires-clause-take : goal.session_on_file-requires-clause-take
+session_on_file-requires-clause-take g c = (named g.F.Files.may_take c.in-Session.is c.as_str-name.ensures.value c.requires.take).0
+
+pub generate_file-requires-clause-take : goal.generate_file-requires-clause-take
+generate_file-requires-clause-take g c = (named g.F.Files.may_take c.in-Generate.is c.as_str-name.ensures.value c.requires.take).0
+
+pub turns_on_file-requires-clause-take : goal.turns_on_file-requires-clause-take
+turns_on_file-requires-clause-take g c = (named g.F.Files.may_take c.in-Turns.is c.as_str-name.ensures.value c.requires.take).0
+
+pub repack-requires-clause-take_file : goal.repack-requires-clause-take_file
+repack-requires-clause-take_file g c = (named g.F.Files.may_take c.in-Repack.is c.as_str-name.ensures.value c.requires.take).0
+
+pub repack-requires-clause-take_new : goal.repack-requires-clause-take_new
+repack-requires-clause-take_new g c = (named g.F.Files.may_take c.in-Repack.is c.as_str-name.ensures.value c.requires.take).1.0
+
+pub convert-requires-clause-take_file : goal.convert-requires-clause-take_file
+convert-requires-clause-take_file g c = (named g.F.Files.may_take c.in-Convert.is c.as_str-name.ensures.value c.requires.take).0
+
+pub convert-requires-clause-take_new : goal.convert-requires-clause-take_new
+convert-requires-clause-take_new g c = subst (λ n. g.F.Files.may_take n New) (sym c.as_str-in-Convert.ensures) (named g.F.Files.may_take c.in-Convert.is c.as_str-name.ensures.value c.requires.take).1.0
+
+pub mend-requires-clause-take_file : goal.mend-requires-clause-take_file
+mend-requires-clause-take_file g c = (named g.F.Files.may_take c.in-Mend.is c.as_str-name.ensures.value c.requires.take).0
+
+pub mend-requires-clause-take_new : goal.mend-requires-clause-take_new
+mend-requires-clause-take_new g c = subst (λ n. g.F.Files.may_take n New) (sym c.as_str-in-Mend.ensures) (named g.F.Files.may_take c.in-Mend.is c.as_str-name.ensures.value c.requires.take).1.0
+
+pub merge_file-requires-clause-take_file : goal.merge_file-requires-clause-take_file
+merge_file-requires-clause-take_file g c = (named g.F.Files.may_take c.in-Merge.is c.as_str-name.ensures.value c.requires.take).0
+
+pub merge_file-requires-clause-take_into : goal.merge_file-requires-clause-take_into
+merge_file-requires-clause-take_into g c = subst (λ n. g.F.Files.may_take n Existing) (sym c.as_str-in-Merge.ensures) (named g.F.Files.may_take c.in-Merge.is c.as_str-name.ensures.value c.requires.take).1.0
+
+pub move_file-requires-clause-take_file : goal.move_file-requires-clause-take_file
+move_file-requires-clause-take_file g c = (named g.F.Files.may_take c.in-Move.is c.as_str-name.ensures.value c.requires.take).0
+
+pub move_file-requires-clause-take_into : goal.move_file-requires-clause-take_into
+move_file-requires-clause-take_into g c = subst (λ n. g.F.Files.may_take n Existing) (sym c.as_str-in-Move.ensures) (named g.F.Files.may_take c.in-Move.is c.as_str-name.ensures.value c.requires.take).1.0
+
+pub back_up-requires-clause-take : goal.back_up-requires-clause-take
+back_up-requires-clause-take g c =
+    subst (λ (q : List ℕ × List (List ℕ)). MayTakeEach g.F.Files.may_take (copies_take q.0 (c.as_str-name.result.now ∷ q.1)))
+    (λ j. (sym c.as_str.ensures j, sym c.as_slice.ensures j)) (named g.F.Files.may_take c.in-Backup.is c.as_str-name.ensures.value c.requires.take)
+
+pub verify-requires-clause-take : goal.verify-requires-clause-take
+verify-requires-clause-take g c =
+    subst (λ (q : List ℕ × List (List ℕ)). MayTakeEach g.F.Files.may_take (verified_take q.0 (c.as_str-name.result.now ∷ q.1)))
+    (λ j. (sym c.as_str-in-Verify.ensures j, sym c.as_slice-in-Verify.ensures j)) (named g.F.Files.may_take c.in-Verify.is c.as_str-name.ensures.value c.requires.take)

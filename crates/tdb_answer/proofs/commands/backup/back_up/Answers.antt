@@ -8,6 +8,7 @@ use Rattle.tdb_cmdline.proofs.Items.{rest_of}
 use Rattle.tdb_answer.specs.Heard.{CopiedHeard}
 use Rattle.tdb_answer.proofs.Copies.{Carries, all_done, went_on, ended_there, carries_on, carries_end}
 use Rattle.tdb_answer.proofs.Hearing.{BackupCarries, backup_on, backup_end}
+use Rattle.tdb_answer.specs.Takes.{MayTakeEach, copies_take}
 use Rattle.tdb_answer.proofs.commands.backup.back_up.Goals as goal
 
 -- the first file wasn't copied
@@ -32,6 +33,7 @@ loop-name-init g c =
     let is : call.result ≡ Replied Copied = c.is_copied.ensures.copied (search rules) in
     let sound : between ≡ before = call.ensures.counted.sound (λ fault. let both : Replied Copied ≡ DeviceFault = sym is ∙ fault in cc) in
     record {
+      take = c.requires.take.1.1;
       free = call.ensures.given_back;
       sound = sound;
       others = λ other none. call.ensures.others other (λ own. none (inl own));
@@ -87,6 +89,7 @@ loop-name-preserved g c =
     let logs = g.L.Logs.logs in
     let others : (name : List ℕ) → (IsNameOf false suffix x name → ⊥) → held call.new.files name ≡ held c.loop-name.files name = λ name other. call.ensures.others name (λ own. other (subst (λ f. IsNameOf false suffix f name) value own)) in
     record {
+      take = (subst (λ l. MayTakeEach g.F.Files.may_take (copies_take suffix l)) eq c.loop-name.invariant.take).1.1;
       free = call.ensures.given_back;
       sound = sound ∙ c.loop-name.invariant.sound;
       others = λ other none. others other (λ own. none (within other (inl own))) ∙ c.loop-name.invariant.others other none;
@@ -150,3 +153,19 @@ returns-clause-heard g c told =
     let all = c.args.file.now ∷ xs in
     let none : drop i xs ≡ [] = drop_of_length-le xs (omega (arith, c.loop-name-test.false)) in
     subst (λ l. BackupCarries all (held c.args.files.now) (logs c.args.logs.now) l (logs c.loop-name.logs)) none (c.loop-name.invariant.hears told) (Replied Copied) (logs c.loop-name.logs) (refl, λ is. cc)
+
+-- the files may be taken
+pub back_up_file-ending-requires-clause-take : goal.back_up_file-ending-requires-clause-take
+back_up_file-ending-requires-clause-take g c = (c.requires.take.0, (c.requires.take.1.0, cc))
+
+pub back_up_file-ending-requires-in-loop-name-clause-take : goal.back_up_file-ending-requires-in-loop-name-clause-take
+back_up_file-ending-requires-in-loop-name-clause-take g c =
+    let suffix = c.args.suffix.now in
+    let xs = c.args.more.now in
+    let i = c.loop-name.name-index in
+    let x = c.name-item.result in
+    let rest = drop (i + 1) xs in
+    let eq : drop i xs ≡ x ∷ rest = rest_of xs i x (omega (arith, c.loop-name-test.true)) c.name-item.is in
+    let value : c.as_str.result.now ≡ x = c.as_str.ensures in
+    let first = subst (λ l. MayTakeEach g.F.Files.may_take (copies_take suffix l)) eq c.loop-name.invariant.take in
+    subst (λ f. MayTakeEach g.F.Files.may_take (copies_take suffix (f ∷ []))) (sym value) (first.0, (first.1.0, cc))

@@ -8,6 +8,7 @@ use Rattle.tdb_answer.specs.declared.ending.Ending.TheVariants.{Replied}
 use Rattle.tdb_answer.specs.declared.ending.Reply.TheVariants.{Verified}
 use Rattle.tdb_answer.specs.Heard.{VerifyHeard, count_ending}
 use Rattle.tdb_answer.proofs.Hearing.{VerifyCarries, verify_on, verify_end, heard_at}
+use Rattle.tdb_answer.specs.Takes.{MayTakeEach, verified_take}
 use Rattle.tdb_answer.proofs.commands.verify.verify_files.Goals as goal
 
 -- the first file wasn't verified
@@ -33,6 +34,7 @@ loop-name-init g c =
     let old = g.F.Files.held c.args.files.now in
     let mid = g.F.Files.held call.new.files in
     record {
+      take = c.requires.take.1.1.1;
       free = call.ensures.given_back;
       sound = c.in_ok-verify_file.ensures.cause.done;
       heard = c.in_ok-verify_file.ensures.output_cause.done;
@@ -86,6 +88,7 @@ loop-name-preserved g c =
     let logs = g.L.Logs.logs in
     let others : (name : List ℕ) → (IsNameOf true suffix x name → ⊥) → held call.new.files name ≡ held c.loop-name.files name = λ name other. call.ensures.others name (λ own. other (subst (λ f. IsNameOf true suffix f name) value own)) in
     record {
+      take = (subst (λ l. MayTakeEach g.F.Files.may_take (verified_take suffix l)) eq c.loop-name.invariant.take).1.1.1;
       free = call.ensures.given_back;
       sound = c.in_ok-verify_file-2.ensures.cause.done ∙ c.loop-name.invariant.sound;
       heard = c.in_ok-verify_file-2.ensures.output_cause.done ∙ c.loop-name.invariant.heard;
@@ -171,3 +174,19 @@ returns-in_err-verify_file-2-clause-others g c other none =
     let value : c.as_str.result.now ≡ x = c.as_str.ensures in
     let within : IsNameAmong true suffix (x ∷ rest) other → IsNameAmong true suffix (c.args.file.now ∷ xs) other = subst (λ l. IsNameAmong true suffix l other → IsNameAmong true suffix (c.args.file.now ∷ xs) other) eq (c.loop-name.invariant.within other) in
     c.verify_file-in-loop-name.ensures.others other (λ own. none (within (inl (subst (λ f. IsNameOf true suffix f other) value own)))) ∙ c.loop-name.invariant.others other none
+
+-- the files may be taken
+pub verify_file-requires-clause-take : goal.verify_file-requires-clause-take
+verify_file-requires-clause-take g c = (c.requires.take.0, (c.requires.take.1.0, (c.requires.take.1.1.0, cc)))
+
+pub verify_file-requires-in-loop-name-clause-take : goal.verify_file-requires-in-loop-name-clause-take
+verify_file-requires-in-loop-name-clause-take g c =
+    let suffix = c.args.suffix.now in
+    let xs = c.args.more.now in
+    let i = c.loop-name.name-index in
+    let x = c.name-item.result in
+    let rest = drop (i + 1) xs in
+    let eq : drop i xs ≡ x ∷ rest = rest_of xs i x (omega (arith, c.loop-name-test.true)) c.name-item.is in
+    let value : c.as_str.result.now ≡ x = c.as_str.ensures in
+    let first = subst (λ l. MayTakeEach g.F.Files.may_take (verified_take suffix l)) eq c.loop-name.invariant.take in
+    subst (λ f. MayTakeEach g.F.Files.may_take (verified_take suffix (f ∷ []))) (sym value) (first.0, (first.1.0, (first.1.1.0, cc)))
