@@ -23,6 +23,7 @@ ghost use Rattle.tdb_top.specs.Outside.{outside};
 ghost use Rattle.tdb_top.specs.Promise.{RanAsPromised};
 ghost use Rattle.tdb_answer.specs.Run.{MayEnd};
 ghost use Rattle.tdb_answer.specs.Stops.{StopsScripted};
+ghost use Rattle.tdb_answer.specs.Takes.{MayTake, ask_takes};
 
 use std::alloc::Global;
 use tdb_answer::{Ending, Status, Unprinted, answer_ask, print};
@@ -40,7 +41,8 @@ fn answer<F: Files, S: Source, K: Sink, L: Logs>(
     output: &mut K,
     logs: &mut L,
 ) -> Result<Ending, Unprinted>
-    requires { (name : List ℕ) → F.is_taken files.old name ≡ false }
+    requires free { (name : List ℕ) → F.is_taken files.old name ≡ false }
+    requires take { MayTake F.may_take (ask_takes (ask_of (map string_bytes words.now))) }
     ensures cause { IsTrue F.D.tells → MayEnd (ask_of (map string_bytes words.now)) (F.held files.old) (input_by S.tells (S.left input.old) (S.faults input.old) (S.faults input.new)) (F.faults files.old) (F.faults files.new) (ending_of result) }
     ensures left { IsTrue F.D.tells → Leaving (input_by S.tells (S.left input.old) (S.faults input.old) (S.faults input.new)) (ask_of (map string_bytes words.now)) (F.held files.old) (ending_of result) (F.held files.new) }
     ensures given_back { (name : List ℕ) → F.is_taken files.new name ≡ false }
@@ -188,7 +190,8 @@ pub fn run<F: Files, S: Source, K: Sink, L: Logs>(
     output: &mut K,
     logs: &mut L,
 ) -> Status
-    requires { (name : List ℕ) → F.is_taken files.old name ≡ false }
+    requires free { (name : List ℕ) → F.is_taken files.old name ≡ false }
+    requires take { MayTake F.may_take (ask_takes (ask_of (map string_bytes words.now))) }
     ensures ran { RanAsPromised F.D.tells S.tells K.tells words.now result.0
         (outside F.Files S.Source K.Sink L.Logs files.old input.old output.old logs.old)
         (outside F.Files S.Source K.Sink L.Logs files.new input.new output.new logs.new) }

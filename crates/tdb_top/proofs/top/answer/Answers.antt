@@ -1,4 +1,4 @@
-use Rattle.std.proofs.Common.{◌≡◌, Option, Some, Ok, map, string_bytes, refl, ap, ◌∙◌, subst}
+use Rattle.std.proofs.Common.{◌≡◌, Option, Some, Ok, map, string_bytes, refl, ap, ◌∙◌, sym, subst}
 use Rattle.std.specs.Prelude.{IsTrue, unwrap_or}
 use Rattle.tdb_disk.specs.Count.{Rose}
 use Rattle.tdb_cmdline.specs.declared.ask.Task.TheVariants.{Turns}
@@ -21,6 +21,7 @@ use Rattle.tdb_answer.proofs.Runs.{asked_cause}
 use Rattle.tdb_answer.proofs.Sessions.{wants_held}
 use Rattle.tdb_answer.proofs.StopsTurning.{unscripted_stops}
 use Rattle.tdb_top.proofs.Writing.{nothing_before}
+use Rattle.tdb_answer.specs.Takes.{MayTake, ask_takes}
 use Rattle.tdb_top.proofs.top.answer.Goals as goal
 
 -- what was asked for is done
@@ -119,3 +120,7 @@ pub returns-in-Err-clause-told : goal.returns-in-Err-clause-told
 returns-in-Err-clause-told g c told =
     let input = input_by g.S.Source.tells (g.S.Source.left c.args.input.now) (g.S.Source.faults c.args.input.now) (g.S.Source.faults c.args.input.now) in
     ask_unheard input (ask_of (map string_bytes c.args.words.now)) (g.F.Files.held c.args.files.now) (g.L.Logs.logs c.args.logs.now)
+
+-- the files may be taken as the words say
+pub answer_ask-requires-clause-take : goal.answer_ask-requires-clause-take
+answer_ask-requires-clause-take g c = subst (λ a. MayTake g.F.Files.may_take (ask_takes a)) (sym (rw c.in-Ok-Some.field-0-is at c.in-Ok-Some.ensures.read)) c.requires.take
