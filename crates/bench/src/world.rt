@@ -1,6 +1,7 @@
 //! Generated commands of three openers of one file, in memory and on a real one.
 
 ghost use Rattle.std.specs.Prelude.{◌≡◌, List, ℕ, false};
+ghost use Rattle.tdb_disk.specs.declared.files.Take.{Take as WayIs};
 
 use anyhow::Context;
 use std::alloc::Global;
@@ -53,7 +54,8 @@ fn run<D: Disk>(alloc: Global, disk: D, count: u32) -> (D, anyhow::Result<Bytes>
 /// Does so many generated commands over a new file, which is removed again, and prints what came of them: 300 unless a
 /// count is asked for. Where it is, it also prints how long they took.
 fn measure_over<F: Files>(rt: HostRuntime, files: &mut F, asked: Option<u32>) -> anyhow::Result<()>
-    requires { (name : List ℕ) → F.is_taken files.old name ≡ false }
+    requires free { (name : List ℕ) → F.is_taken files.old name ≡ false }
+    requires way { (name : List ℕ) (how : WayIs) → F.may_take name how }
 {
     let start = Instant::now(&rt)?;
     let disk = files

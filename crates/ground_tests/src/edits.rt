@@ -64,7 +64,8 @@ pub(crate) fn take_and_give<F: Files>(
     name: &str,
     how: Take,
 ) -> Option<TakeRefusal>
-    requires { F.is_taken files.old name.now ≡ false }
+    requires free { F.is_taken files.old name.now ≡ false }
+    requires way { F.may_take name.now how }
     ensures free { F.is_taken files.new name.now ≡ false }
     ensures others { SameBut name.now (F.is_taken files.old) (F.is_taken files.new) }
 {
