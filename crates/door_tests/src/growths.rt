@@ -7,7 +7,8 @@ use crate::runs::Failing::Nothing;
 use crate::tables::Left;
 use tdb_log::Notice;
 
-/// The dumps of two and of three pairs, whose records take 32 bytes each, and of one with a line behind it that is none.
+/// The dumps of two and of three pairs, whose records take 32 bytes each, and of one with a line behind it that is
+/// none.
 const TWO: &str = "{\nkey(1) = \"a\"\ndata(1) = \"1\"\n}\n{\nkey(1) = \"b\"\ndata(1) = \"2\"\n}\n";
 
 const THREE: &str =

@@ -26,8 +26,8 @@ const FAULT: &str = "device fault\n";
 const DUMP: &str = "{\nkey(1) = \"a\"\ndata(1) = \"1\"\n}\n";
 
 pub(crate) static TABLES: [Table; 9] = [
-    // A file as the program makes it comes out the same, with its sequence number. What stood at the name of the new one
-    // is gone.
+    // A file as the program makes it comes out the same, with its sequence number. What stood at the name of the new
+    // one is gone.
     Table {
         files: &[("f.tdb", NUMBERED), ("f.tdb.tmp", UNFINISHED)],
         in_turn: 8,
