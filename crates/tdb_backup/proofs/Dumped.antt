@@ -1,8 +1,8 @@
 -- What a dump has written and what it still holds, pair by pair; and what is written of it where it is refused.
-use Rattle.std.proofs.Common.{◌≡◌, ℕ, ◌+◌, ◌<◌, ◌≤◌, Bool, true, false, List, [], ◌∷◌, ◌++◌, length, take, drop, append_assoc, append-nil, zero, suc, refl, sym, ◌∙◌, ap, inl, inr, arith}
-use Rattle.std.specs.Prelude.{map, MatchBool}
+use Rattle.std.proofs.Common.{◌≡◌, ℕ, ◌+◌, ◌<◌, ◌≤◌, Bool, true, false, List, [], ◌∷◌, ◌++◌, length, take, drop, append_assoc, append-nil, zero, suc, refl, sym, ◌∙◌, ap, subst, inl, inr, arith}
+use Rattle.std.specs.Prelude.{map}
 use Rattle.std.specs.List.{flat_map}
-use Rattle.std.proofs.lemmas.Bool.{cases_eq, MatchBool-at_true, MatchBool-at_false}
+use Rattle.std.proofs.lemmas.Bool.{cases_eq}
 use Rattle.std.proofs.lemmas.List.{length-append, length-take-le, take_at, take-append-le, take-append-drop, map-append}
 use Rattle.std.proofs.lemmas.List.Concat.{flat_map-append}
 use Rattle.tdb_dump.specs.declared.listing.Listing.{Listing}
@@ -11,12 +11,9 @@ use Rattle.tdb_dump.specs.Listing.{entry_text}
 use Rattle.tdb_space.specs.Form.{Form}
 use Rattle.tdb_space.specs.Chain.{chain_of}
 use Rattle.tdb_space.specs.Pairs.{joined, pairs, order_of}
-use Rattle.tdb_space.specs.Extents.{HandPair}
-use Rattle.tdb_space.specs.Accepted.{AcceptWith}
 use Rattle.tdb_backup.specs.declared.traversal.Traversal.{Traversal}
 use Rattle.tdb_backup.specs.Traversal.{Gave, pair_at_hand}
-use Rattle.tdb_backup.specs.Dump.{as_pair, order_text, listing_of, WroteFront, HandedOn}
-use Rattle.tdb_backup.proofs.Walk.{moved}
+use Rattle.tdb_backup.specs.Dump.{as_pair, text_of, order_text, listing_of, WroteFront, HandedOn, WroteNext}
 
 -- the front of a list and some of what follows
 take_over : (xs ys zs : List ℕ) (n : ℕ) → n ≤ length ys → take (length xs + n) (xs ++ ys ++ zs) ≡ xs ++ take n ys
@@ -109,30 +106,66 @@ module _ (l : Listing) (f : Form) (img before now held : List ℕ) (given : List
         wrote.2 ∙ ap (λ x. x ++ take n held) d.wrote ∙ append_assoc before d.done (take n held) ∙ ap (λ x. before ++ x) (sym cut),
       )
 
-module _ (l : Listing) (f k : Form) (img v : List ℕ) (hands : List HandPair) (before now held : List ℕ) (t u : Traversal) (b : Bool) (form : k ≡ f) (image : v ≡ img) (A : AcceptWith f img hands)
-    (d : (given : List (List ℕ × List ℕ)) × Gave f img given t × Dumped l before now held given)
-    (answer : (hands : List HandPair) → AcceptWith k v hands → (given : List (List ℕ × List ℕ)) → Gave k v given t
-    → MatchBool b (Gave k v (given ++ pair_at_hand u ∷ []) u) (Gave k v given u × (order_of k v ≡ given))) where
-  told : MatchBool b (Gave k v (d.0 ++ pair_at_hand u ∷ []) u) (Gave k v d.0 u × (order_of k v ≡ d.0))
-  told = answer hands (moved (λ x i. AcceptWith x i hands) k f v img (sym form) (sym image) A) d.0 (moved (λ x i. Gave x i d.0 t) k f v img (sym form) (sym image) d.1)
+-- what a listing has written and holds, and the walk that it came with
+abbrev pub Listed : Listing → Form → List ℕ → List ℕ → List ℕ → List ℕ → Traversal → Type 0
+Listed l f img before now held t = (given : List (List ℕ × List ℕ)) × Gave f img given t × Dumped l before now held given
 
-  -- a pair more was given, and its text is held
-  pub dump_more : b ≡ true → (key value more : List ℕ) → key ≡ (pair_at_hand u).0 → value ≡ (pair_at_hand u).1 → more ≡ held ++ entry_text l key value
-      → (given : List (List ℕ × List ℕ)) × Gave f img given u × Dumped l before now more given
-  dump_more another key value more same_key same_value e =
-      let next = MatchBool-at_true (Gave k v (d.0 ++ pair_at_hand u ∷ []) u) (Gave k v d.0 u × (order_of k v ≡ d.0)) another told in (
-        d.0 ++ pair_at_hand u ∷ [],
-        moved (λ x i. Gave x i (d.0 ++ pair_at_hand u ∷ []) u) f k img v form image next,
-        dumped_pair l before now held more d.0 (pair_at_hand u) d.2 (e ∙ (λ j. held ++ entry_text l (same_key j) (same_value j))),
-      )
+-- a pair more was listed
+pub listed_more : (l : Listing) (f : Form) (img before now held later left : List ℕ) (given : List (List ℕ × List ℕ)) (u : Traversal) → Dumped l before now held given
+    → Gave f img (given ++ pair_at_hand u ∷ []) u × HandedOn now (held ++ text_of l (pair_at_hand u)) later left → Listed l f img before later left u
+listed_more l f img before now held later left given u d next = (
+  given ++ pair_at_hand u ∷ [],
+  next.0,
+  dumped_on l before now (held ++ text_of l (pair_at_hand u)) later left (given ++ pair_at_hand u ∷ []) (dumped_pair l before now held (held ++ text_of l (pair_at_hand u)) given (pair_at_hand u) d refl) next.1,
+)
 
-  -- no pair is left, and what is held is handed on
-  pub dump_done : b ≡ false → (later left : List ℕ) → HandedOn now held later left → length left < 1 → later ≡ before ++ listing_of l f img
-  dump_done ended later left on short =
-      let all = MatchBool-at_false (Gave k v (d.0 ++ pair_at_hand u ∷ []) u) (Gave k v d.0 u × (order_of k v ≡ d.0)) ended told in
-      let order : order_of f img ≡ d.0 = moved (λ x i. order_of x i ≡ d.0) f k img v form image all.1 in
-      dumped_end l before later left d.0 (dumped_on l before now held later left d.0 d.2 on) (none left short) ∙ ap (λ ps. before ++ order_text l ps) (sym order)
-    where
-      none : (xs : List ℕ) → length xs < 1 → xs ≡ []
-      none [] short = refl
-      none (x ∷ xs) short = absurd (omega (arith, short))
+-- no pair is left, and what is held is handed on
+pub listed_all : (l : Listing) (f : Form) (img before now held later left : List ℕ) (given : List (List ℕ × List ℕ)) → Dumped l before now held given → order_of f img ≡ given
+    → HandedOn now held later left → length left < 1 → later ≡ before ++ listing_of l f img
+listed_all l f img before now held later left given d order on short =
+    dumped_end l before later left given (dumped_on l before now held later left given d on) (none left short) ∙ ap (λ ps. before ++ order_text l ps) (sym order)
+  where
+    none : (xs : List ℕ) → length xs < 1 → xs ≡ []
+    none [] short = refl
+    none (x ∷ xs) short = absurd (omega (arith, short))
+
+-- where a pair isn't listed, what was written is a front of the dump
+pub listed_stopped : (l : Listing) (f : Form) (img before now held later : List ℕ) (given : List (List ℕ × List ℕ)) → Dumped l before now held given → WroteNext l (order_of f img) given now held later
+    → WroteFront before (listing_of l f img) later
+listed_stopped l f img before now held later given d w =
+    let n = w.wrote.0 in
+    let more = order_text l w.next in
+    let rest = order_text l w.rest in
+    let whole : listing_of l f img ≡ d.done ++ (held ++ more) ++ rest =
+    ap (order_text l) w.split ∙ order_text_split l (given ++ w.next) w.rest
+    ∙ ap (λ t. t ++ rest) (order_text_split l given w.next ∙ ap (λ t. t ++ more) (sym d.all) ∙ append_assoc d.done held more) in
+    let cut : take (length d.done + n) (listing_of l f img) ≡ d.done ++ take n (held ++ more) = ap (take (length d.done + n)) whole ∙ take_over d.done (held ++ more) rest n w.wrote.1 in (
+      length d.done + n,
+      omega (arith, w.wrote.1, ap length whole, length-append (d.done ++ (held ++ more)) rest, length-append d.done (held ++ more)),
+      w.wrote.2 ∙ ap (λ x. x ++ take n (held ++ more)) d.wrote ∙ append_assoc before d.done (take n (held ++ more)) ∙ ap (λ x. before ++ x) (sym cut),
+    )
+
+-- nothing was written of the next pair
+pub none_next : (l : Listing) (f : Form) (img before held now : List ℕ) (given : List (List ℕ × List ℕ)) (t : Traversal) → Gave f img given t → now ≡ before → WroteNext l (order_of f img) given before held now
+none_next l f img before held now given t h same =
+    let more = gave_front f img given t h in
+    record {
+      next = [];
+      rest = more.0;
+      split = more.1 ∙ ap (λ ps. ps ++ more.0) (sym (append-nil given));
+      one = omega arith;
+      wrote = (0, omega arith, same ∙ sym (append-nil before));
+    }
+
+-- some of what was held, and of the next pair, was written
+pub one_next : (l : Listing) (f : Form) (img before held now : List ℕ) (given : List (List ℕ × List ℕ)) (p : List ℕ × List ℕ) (u : Traversal) → Gave f img (given ++ p ∷ []) u → WroteFront before (held ++ text_of l p) now
+    → WroteNext l (order_of f img) given before held now
+one_next l f img before held now given p u h wrote =
+    let more = gave_front f img (given ++ p ∷ []) u h in
+    record {
+      next = p ∷ [];
+      rest = more.0;
+      split = more.1;
+      one = omega arith;
+      wrote = subst (λ text. WroteFront before (held ++ text) now) (sym (append-nil (text_of l p))) wrote;
+    }

@@ -1,4 +1,5 @@
 mod Walk
+mod Costs
 mod Bytes
 pub mod Dumped
 pub mod Inserting

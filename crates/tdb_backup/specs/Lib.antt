@@ -1,5 +1,6 @@
 pub mod Held
 pub mod Traversal
+pub mod Reads
 pub mod Dump
 pub mod Room
 pub mod Filling

@@ -1,7 +1,7 @@
 // All pairs of a file are added to another one.
 
 ghost use Rattle.std.specs.Prelude.{◌≡◌, ◌^◌, ◌<◌, ◌≤◌, max, [], ℕ, List, IsTrue, IfErr, OnOk};
-ghost use Rattle.tdb_disk.specs.Count.{HasCauseOf};
+ghost use Rattle.tdb_disk.specs.Count.{HasCauseOf, RoseUpTo};
 ghost use Rattle.tdb_space.specs.Frame.{Looked, Wrote};
 ghost use Rattle.tdb_space.specs.Pairs.{order_of};
 ghost use Rattle.tdb_space.specs.Extents.{HandPair};
@@ -9,6 +9,7 @@ ghost use Rattle.tdb_space.specs.Accepted.{AcceptWith};
 ghost use Rattle.tdb_log.specs.Logs.{ToldAll};
 ghost use Rattle.tdb_backup.specs.Building.{HoldsPairs, BackupRefused};
 ghost use Rattle.tdb_backup.specs.Growths.{CopyHeard, growths_of};
+ghost use Rattle.tdb_backup.specs.Reads.{pairs_reads};
 ghost use Rattle.tdb_backup.specs.declared.refusal.BackupRefusal.TheVariants.{Copy};
 ghost use Rattle.tdb_backup.specs.declared.refusal.CopyRefusal.TheVariants.{Read, Write};
 
@@ -50,6 +51,7 @@ pub fn copy_pairs<S: Space, T: Space, L: Logs>(
     ensures within { T.size to.new ≤ max (T.size to.old) limit }
     ensures looked { Looked S.Space from.old from.new }
     ensures wrote { Wrote T.Space to.old to.new }
+    ensures reads { IsTrue S.tells → RoseUpTo (pairs_reads (S.form from.old) (S.image from.old)) (S.bytes_read from.old) (S.bytes_read from.new) }
     ensures read_cause { HasCauseOf (Copy Read) (S.faults from.old) (S.faults from.new) result }
     ensures write_cause { HasCauseOf (Copy Write) (T.faults to.old) (T.faults to.new) result }
 {

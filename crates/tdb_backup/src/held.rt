@@ -1,7 +1,7 @@
 // The bytes of the record that a traversal read last.
 
-ghost use Rattle.std.specs.Prelude.{◌≡◌, ◌+◌, ◌^◌, ◌<◌, ◌≤◌, List, ℕ, length, take, drop, IsTrue, IfOk, OnOk};
-ghost use Rattle.tdb_disk.specs.Count.{HasCause, HasCauseOf};
+ghost use Rattle.std.specs.Prelude.{◌≡◌, ◌+◌, ◌-◌, ◌^◌, ◌<◌, ◌≤◌, List, ℕ, length, take, drop, min, IsTrue, IfOk, OnOk};
+ghost use Rattle.tdb_disk.specs.Count.{HasCause, HasCauseOf, RoseUpTo};
 ghost use Rattle.tdb_words.specs.Record.{rec_at};
 ghost use Rattle.tdb_space.specs.Frame.{Looked};
 ghost use Rattle.tdb_chain.specs.declared.refusal.ValueRefusal.TheVariants.{Io as IoRefusal};
@@ -74,12 +74,13 @@ impl Held {
     ) -> Result<Rec, ValueRefusal>
         requires length { len ≡ S.size s.old }
         requires within { at + 24 ≤ len }
+        ensures end { OnOk result (self.new.end ≡ min 128 (len - at)) }
         ensures front { OnOk result (IsFront self.new at len) }
         ensures shows { OnOk result (IsTrue S.tells → Shows self.new (S.image s.old) at) }
         ensures header { IfOk result (λ rec. IsTrue S.tells → rec ≡ rec_at (S.form s.old).order (S.image s.old) at) }
         ensures looked { Looked S.Space s.old s.new }
         ensures cause { HasCauseOf IoRefusal (S.faults s.old) (S.faults s.new) result }
-        ensures bytes_read { S.bytes_read s.old ≤ S.bytes_read s.new }
+        ensures bytes_read { RoseUpTo (min 128 (len - at)) (S.bytes_read s.old) (S.bytes_read s.new) }
     {
         self.key_at = 0;
         self.value_at = 0;
@@ -101,7 +102,7 @@ impl Held {
         ensures value_length { OnOk result (length (pair_held self.new).1 ≡ rec.now.data_len) }
         ensures looked { Looked S.Space s.old s.new }
         ensures cause { HasCauseOf IoRefusal (S.faults s.old) (S.faults s.new) result }
-        ensures bytes_read { S.bytes_read s.old ≤ S.bytes_read s.new }
+        ensures bytes_read { RoseUpTo (24 + rec.now.key_len + rec.now.data_len - self.old.end) (S.bytes_read s.old) (S.bytes_read s.new) }
     {
         let value_at = HEADER + rec.key_len as usize;
         let end = value_at + rec.data_len as usize;
@@ -126,7 +127,7 @@ impl Held {
         ensures value_length { OnOk result (length (pair_held self.new).1 ≡ rec.now.data_len) }
         ensures looked { Looked S.Space s.old s.new }
         ensures cause { HasCauseOf IoRefusal (S.faults s.old) (S.faults s.new) result }
-        ensures bytes_read { S.bytes_read s.old ≤ S.bytes_read s.new }
+        ensures bytes_read { RoseUpTo (rec.now.key_len + rec.now.data_len) (S.bytes_read s.old) (S.bytes_read s.new) }
     {
         self.key_at = 0;
         self.value_at = 0;
@@ -159,7 +160,7 @@ fn read_up_to<S: Space>(
         → take end room.new.items ≡ take end (drop at (S.image s.old))) }
     ensures looked { Looked S.Space s.old s.new }
     ensures cause { HasCauseOf IoRefusal (S.faults s.old) (S.faults s.new) result }
-    ensures bytes_read { S.bytes_read s.old ≤ S.bytes_read s.new }
+    ensures bytes_read { RoseUpTo (end - held) (S.bytes_read s.old) (S.bytes_read s.new) }
 {
     lengthen(room, end)?;
     if held < end {
@@ -195,7 +196,7 @@ fn read_behind<S: Space>(
         → take end room.new ≡ take end (drop at (S.image s.old))) }
     ensures looked { Looked S.Space s.old s.new }
     ensures cause { HasCause (S.faults s.old) (S.faults s.new) result }
-    ensures bytes_read { S.bytes_read s.old ≤ S.bytes_read s.new }
+    ensures bytes_read { RoseUpTo (end - held) (S.bytes_read s.old) (S.bytes_read s.new) }
 {
     s.read(at + held as u64, &mut room[held..end])
 }

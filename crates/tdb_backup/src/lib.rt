@@ -11,7 +11,7 @@ mod telling;
 mod traversal;
 
 pub use crate::copying::copy_pairs;
-pub use crate::dumping::write_pairs;
+pub use crate::dumping::{list_next, write_pairs};
 pub use crate::filling::insert_new;
 pub use crate::held::Held;
 pub use crate::refusal::{BackupRefusal, CopyRefusal, DumpRefusal, InsertRefusal, RestoreRefusal};

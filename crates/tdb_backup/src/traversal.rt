@@ -1,11 +1,12 @@
 // All pairs of a file, one after the other.
 
-ghost use Rattle.std.specs.Prelude.{◌≡◌, ◌↔◌, ◌+◌, ◌-◌, ◌*◌, ◌≤◌, ◌<◌, [], ◌∷◌, ◌++◌, ℕ, List, ◌^◌, length, Some, IsTrue, IfOk, IfSome, OnOk, OnErr, MatchBool};
-ghost use Rattle.tdb_disk.specs.Count.{HasCause, HasCauseOf};
+ghost use Rattle.std.specs.Prelude.{◌≡◌, ◌↔◌, ◌+◌, ◌-◌, ◌*◌, ◌/◌, ◌≤◌, ◌<◌, ◌==◌, if◌then◌else◌, [], ◌∷◌, ◌++◌, ℕ, List, ◌^◌, length, min, Some, IsTrue, IfOk, IfSome, OnOk, OnErr, MatchBool};
+ghost use Rattle.tdb_disk.specs.Count.{HasCause, HasCauseOf, RoseUpTo};
 ghost use Rattle.tdb_space.specs.Frame.{Looked};
 ghost use Rattle.tdb_words.specs.declared.record.TheConstants.{USED};
+ghost use Rattle.tdb_words.specs.Word.{word};
 ghost use Rattle.tdb_words.specs.Record.{rec_at};
-ghost use Rattle.tdb_space.specs.Form.{Form, data_start};
+ghost use Rattle.tdb_space.specs.Form.{Form, data_start, chain_head};
 ghost use Rattle.tdb_space.specs.Record.{Fits, magic_of};
 ghost use Rattle.tdb_space.specs.Chain.{IsLink};
 ghost use Rattle.tdb_space.specs.Pairs.{order_of};
@@ -15,6 +16,7 @@ ghost use Rattle.tdb_chain.specs.declared.refusal.ValueRefusal.TheVariants.{Io a
 ghost use Rattle.tdb_chain.specs.Place.{LiesWithin};
 ghost use Rattle.tdb_backup.specs.Held.{IsFront, Shows, IsPairOf};
 ghost use Rattle.tdb_backup.specs.Traversal.{Gave, GaveChains, pair_at_hand, most_left};
+ghost use Rattle.tdb_backup.specs.Reads.{ReadsAlong, rest_reads, ahead_reads, pairs_reads};
 
 use crate::held::Held;
 use std::alloc::Global;
@@ -51,7 +53,8 @@ fn fits(rec: &Rec) -> bool
 impl Traversal {
     /// A walk that stands before the first pair. It takes no memory.
     pub fn new(alloc: Global) -> Traversal
-        ensures { (f : Form) (img : List ℕ) → Gave f img [] result }
+        ensures gave { (f : Form) (img : List ℕ) → Gave f img [] result }
+        ensures reads { (f : Form) (img : List ℕ) → ahead_reads f img result ≡ pairs_reads f img }
     {
         Traversal {
             next_chain: 0,
@@ -97,6 +100,8 @@ impl Traversal {
         ensures looked { Looked S.Space s.old s.new }
         ensures cause { HasCauseOf IoRefusal (S.faults s.old) (S.faults s.new) result }
         ensures bytes_read { S.bytes_read s.old ≤ S.bytes_read s.new }
+        ensures reads { IfOk result (λ more. IsTrue S.tells → IsTrue more → ReadsAlong (S.form s.old) (S.image s.old) self.old self.new (S.bytes_read s.old) (S.bytes_read s.new)) }
+        ensures reads_at_most { IsTrue S.tells → RoseUpTo (ahead_reads (S.form s.old) (S.image s.old) self.old) (S.bytes_read s.old) (S.bytes_read s.new) }
     {
         let len = s.len()?;
         let chains = s.hash_size();
@@ -123,10 +128,12 @@ impl Traversal {
         ensures gave { IsTrue S.tells → (hands : List HandPair) → AcceptWith (S.form s.old) (S.image s.old) hands
             → (given : List (List ℕ × List ℕ)) → GaveChains (S.form s.old) (S.image s.old) given self.old → Gave (S.form s.old) (S.image s.old) given self.new }
         ensures entered { OnOk result (self.new.next_chain ≡ self.old.next_chain + 1) }
+        ensures head { OnOk result (IsTrue S.tells → self.new.at ≡ word (S.form s.old).order (S.image s.old) (chain_head self.old.next_chain)) }
+        ensures all_left { OnOk result (self.new.left ≡ len / 4) }
         ensures counted { OnOk result (4 * self.new.left ≤ len) }
         ensures looked { Looked S.Space s.old s.new }
         ensures cause { HasCause (S.faults s.old) (S.faults s.new) result }
-        ensures bytes_read { S.bytes_read s.old ≤ S.bytes_read s.new }
+        ensures bytes_read { RoseUpTo (4) (S.bytes_read s.old) (S.bytes_read s.new) }
     {
         self.at = read_word(s, chain_head(self.next_chain))?;
         self.left = len / 4;
@@ -149,6 +156,8 @@ impl Traversal {
         ensures looked { Looked S.Space s.old s.new }
         ensures cause { HasCauseOf IoRefusal (S.faults s.old) (S.faults s.new) result }
         ensures bytes_read { S.bytes_read s.old ≤ S.bytes_read s.new }
+        ensures reads { IfOk result (λ more. IsTrue S.tells → IsTrue more → S.bytes_read s.new + rest_reads (S.form s.old) (S.image s.old) self.new ≤ S.bytes_read s.old + rest_reads (S.form s.old) (S.image s.old) self.old) }
+        ensures reads_at_most { IsTrue S.tells → RoseUpTo (rest_reads (S.form s.old) (S.image s.old) self.old) (S.bytes_read s.old) (S.bytes_read s.new) }
     {
         while self.left > 0 {
             let Some(rec) = self.record_ahead(s, len)? else {
@@ -177,7 +186,7 @@ impl Traversal {
         ensures same_chain { self.new.next_chain ≡ self.old.next_chain }
         ensures looked { Looked S.Space s.old s.new }
         ensures cause { HasCauseOf IoRefusal (S.faults s.old) (S.faults s.new) result }
-        ensures bytes_read { S.bytes_read s.old ≤ S.bytes_read s.new }
+        ensures bytes_read { RoseUpTo (24 + rec.key_len + rec.data_len - self.old.held.end) (S.bytes_read s.old) (S.bytes_read s.new) }
     {
         self.held.read_rest(s, self.at, &rec)?;
         self.at = rec.next;
@@ -194,11 +203,12 @@ impl Traversal {
         ensures above { IfOk result (λ found. IfSome found (λ rec. data_start (S.form s.old) ≤ self.old.at)) }
         ensures lies { IfOk result (λ found. IfSome found (λ rec. LiesWithin rec self.old.at len)) }
         ensures front { IfOk result (λ found. IfSome found (λ rec. IsFront self.new.held self.old.at len)) }
+        ensures end { IfOk result (λ found. IfSome found (λ rec. self.new.held.end ≡ min 128 (len - self.old.at))) }
         ensures shows { IfOk result (λ found. IfSome found (λ rec. IsTrue S.tells → Shows self.new.held (S.image s.old) self.old.at)) }
         ensures same_place { (self.new.at ≡ self.old.at) × (self.new.left ≡ self.old.left) × (self.new.next_chain ≡ self.old.next_chain) }
         ensures looked { Looked S.Space s.old s.new }
         ensures cause { HasCauseOf IoRefusal (S.faults s.old) (S.faults s.new) result }
-        ensures bytes_read { S.bytes_read s.old ≤ S.bytes_read s.new }
+        ensures bytes_read { RoseUpTo (if self.old.at == 0 then 0 else min 128 (len - self.old.at)) (S.bytes_read s.old) (S.bytes_read s.new) }
     {
         let at = self.at;
         if !header_stands(at, len, s.hash_size()) {

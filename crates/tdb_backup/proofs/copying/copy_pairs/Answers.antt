@@ -2,18 +2,21 @@
 use Rattle.std.proofs.Common.{◌+◌, [], refl, rules, length, sym, arith}
 use Rattle.std.proofs.lemmas.Result.{err_from_is_err_and}
 use Rattle.tdb_space.specs.NewRecord.{rec_len_for}
+use Rattle.tdb_backup.proofs.Costs.{goes_on, has_read}
 use Rattle.tdb_backup.proofs.Inserting.{stays_within, within_short}
 use Rattle.tdb_backup.proofs.Building.{built_more, built_all, told_all, built_refused, heard_refused, built_unread, heard_unread}
 use Rattle.tdb_backup.proofs.copying.copy_pairs.Goals as goal
 
 pub loop-traversal-init : goal.loop-traversal-init
 loop-traversal-init g c = record {
-  built = λ told heard small hands A first holds. record { given = []; gave = c.new-traversal.ensures (g.S.Space.form c.args.from.now) (g.S.Space.image c.args.from.now); holds = holds; told = refl };
+  built = λ told heard small hands A first holds. record { given = []; gave = c.new-traversal.ensures.gave (g.S.Space.form c.args.from.now) (g.S.Space.image c.args.from.now); holds = holds; told = refl };
   within = omega arith;
   looked = search rules;
   wrote = search rules;
   read_faults = refl;
   write_faults = refl;
+  bytes_read = search rules;
+  reads = λ told. omega (arith, c.new-traversal.ensures.reads (g.S.Space.form c.args.from.now) (g.S.Space.image c.args.from.now));
 }
 
 pub loop-traversal-preserved : goal.loop-traversal-preserved
@@ -34,6 +37,11 @@ loop-traversal-preserved g c = record {
   wrote = search rules;
   read_faults = search rules;
   write_faults = search rules;
+  bytes_read = search rules;
+  reads = λ told.
+      (let looked = c.loop-traversal.invariant.looked in
+      goes_on (g.S.Space.form c.args.from.now) (g.S.Space.form c.loop-traversal.from) (g.S.Space.image c.args.from.now) (g.S.Space.image c.loop-traversal.from) c.loop-traversal.traversal c.advance.new.self
+      (g.S.Space.bytes_read c.loop-traversal.from) (g.S.Space.bytes_read c.advance.new.s) _ looked.form looked.image (c.in_ok-advance.ensures.reads told c.if-branch.true) (c.loop-traversal.invariant.reads told));
 }
 
 pub returns-in_err-advance-clause-refused : goal.returns-in_err-advance-clause-refused
@@ -101,3 +109,31 @@ returns-clause-told g c told heard small hands A first holds =
 pub returns-in_err-insert_and_tell-clause-within : goal.returns-in_err-insert_and_tell-clause-within
 returns-in_err-insert_and_tell-clause-within g c =
     stays_within (g.T.Space.size c.args.to.now) (g.T.Space.size c.loop-traversal.to) (24 + rec_len_for (length c.key.result.now) (length c.value.result.now)) c.args.limit (g.T.Space.size c.insert_and_tell.new.s) c.loop-traversal.invariant.within c.insert_and_tell.ensures.size
+
+-- what was read
+pub returns-in_err-advance-clause-reads : goal.returns-in_err-advance-clause-reads
+returns-in_err-advance-clause-reads g c told =
+    let v = c.loop-traversal.invariant in
+    record {
+      no_more = has_read (g.S.Space.form c.args.from.now) (g.S.Space.form c.loop-traversal.from) (g.S.Space.image c.args.from.now) (g.S.Space.image c.loop-traversal.from) c.loop-traversal.traversal (g.S.Space.bytes_read c.loop-traversal.from) (g.S.Space.bytes_read c.advance.new.s) _ v.looked.form v.looked.image
+          (c.advance.ensures.reads_at_most told) (v.reads told);
+      never_falls = omega (arith, v.bytes_read, c.advance.ensures.bytes_read);
+    }
+
+pub returns-in_err-insert_and_tell-clause-reads : goal.returns-in_err-insert_and_tell-clause-reads
+returns-in_err-insert_and_tell-clause-reads g c told =
+    let v = c.loop-traversal.invariant in
+    record {
+      no_more = has_read (g.S.Space.form c.args.from.now) (g.S.Space.form c.loop-traversal.from) (g.S.Space.image c.args.from.now) (g.S.Space.image c.loop-traversal.from) c.loop-traversal.traversal (g.S.Space.bytes_read c.loop-traversal.from) (g.S.Space.bytes_read c.advance.new.s) _ v.looked.form v.looked.image
+          (c.advance.ensures.reads_at_most told) (v.reads told);
+      never_falls = omega (arith, v.bytes_read, c.advance.ensures.bytes_read);
+    }
+
+pub returns-clause-reads : goal.returns-clause-reads
+returns-clause-reads g c told =
+    let v = c.loop-traversal.invariant in
+    record {
+      no_more = has_read (g.S.Space.form c.args.from.now) (g.S.Space.form c.loop-traversal.from) (g.S.Space.image c.args.from.now) (g.S.Space.image c.loop-traversal.from) c.loop-traversal.traversal (g.S.Space.bytes_read c.loop-traversal.from) (g.S.Space.bytes_read c.advance.new.s) _ v.looked.form v.looked.image
+          (c.advance.ensures.reads_at_most told) (v.reads told);
+      never_falls = omega (arith, v.bytes_read, c.advance.ensures.bytes_read);
+    }

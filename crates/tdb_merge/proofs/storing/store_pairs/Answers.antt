@@ -14,7 +14,7 @@ loop-traversal-init g c = record {
   so_far = λ told hands A.
       (let f = g.S.Space.form c.args.from.now in
       let img = g.S.Space.image c.args.from.now in
-      so_far_none g.D.Disk.tells f img c.args.prefix.now c.new-traversal.result c.args.world.now (c.new-traversal.ensures f img));
+      so_far_none g.D.Disk.tells f img c.args.prefix.now c.new-traversal.result c.args.world.now (c.new-traversal.ensures.gave f img));
   looked = search rules;
   faults = search rules;
 }

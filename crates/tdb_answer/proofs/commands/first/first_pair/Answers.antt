@@ -13,7 +13,7 @@ returns-then-not-branch-clause-found g c told =
     let on = c.requires.opened told in
     told_of (seen (g.D.Disk.history c.args.disk.now)) [] c.args.opened.now on.accepted on.header (λ f i. first_pair_of (order_of f i) ≡ None) _ _
     (ap form_in c.new-space.ensures.header) (ap (λ d. seen (g.D.Disk.history d)) c.new-space.ensures.disk)
-    (λ accept. none_given _ _ c.advance.new.self c.in_ok-advance.field-0 (c.in_ok-advance.ensures.gave told [] accept [] (c.new-traversal.ensures _ _)) c.if-not-branch.true)
+    (λ accept. none_given _ _ c.advance.new.self c.in_ok-advance.field-0 (c.in_ok-advance.ensures.gave told [] accept [] (c.new-traversal.ensures.gave _ _)) c.if-not-branch.true)
 
 -- it gave this one
 pub returns-clause-found : goal.returns-clause-found
@@ -22,5 +22,5 @@ returns-clause-found g c told =
     told_of (seen (g.D.Disk.history c.args.disk.now)) [] c.args.opened.now on.accepted on.header (λ f i. first_pair_of (order_of f i) ≡ Some (c.in_ok-key.key, c.in_ok-value.value)) _ _
     (ap form_in c.new-space.ensures.header) (ap (λ d. seen (g.D.Disk.history d)) c.new-space.ensures.disk)
     (λ accept.
-    first_given _ _ c.advance.new.self c.in_ok-advance.field-0 (c.in_ok-advance.ensures.gave told [] accept [] (c.new-traversal.ensures _ _)) c.if-not-branch.false
+    first_given _ _ c.advance.new.self c.in_ok-advance.field-0 (c.in_ok-advance.ensures.gave told [] accept [] (c.new-traversal.ensures.gave _ _)) c.if-not-branch.false
     ∙ (λ j. Some (sym (c.in_ok-key.ensures ∙ c.key.ensures) j, sym (c.in_ok-value.ensures ∙ c.value.ensures) j)))

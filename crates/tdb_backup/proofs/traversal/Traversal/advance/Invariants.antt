@@ -1,9 +1,10 @@
 -- The walk has given what it had, and has passed chains without pairs at most.
-use Rattle.std.proofs.Common.{◌≡◌, ◌≤◌, ◌-◌, ℕ, List, IsTrue}
+use Rattle.std.proofs.Common.{◌≡◌, ◌+◌, ◌≤◌, ◌-◌, ℕ, List, IsTrue}
 use Rattle.tdb_space.specs.Frame.{Looked}
 use Rattle.tdb_space.specs.Extents.{HandPair}
 use Rattle.tdb_space.specs.Accepted.{AcceptWith}
 use Rattle.tdb_backup.specs.Traversal.{Gave, most_left}
+use Rattle.tdb_backup.specs.Reads.{ahead_reads}
 use Rattle.tdb_backup.proofs.traversal.Traversal.advance.Given as goal
 
 abbrev pub invariant-loop-self : goal.invariant-loop-self
@@ -14,6 +15,7 @@ invariant-loop-self g l = record {
   looked : Looked g.S.Space l.fn.s l.s;
   faults : g.S.Space.faults l.s ≡ g.S.Space.faults l.fn.s;
   bytes_read : g.S.Space.bytes_read l.fn.s ≤ g.S.Space.bytes_read l.s;
+  reads : IsTrue g.S.Space.tells → g.S.Space.bytes_read l.s + ahead_reads (g.S.Space.form l.fn.s) (g.S.Space.image l.fn.s) l.self ≤ g.S.Space.bytes_read l.fn.s + ahead_reads (g.S.Space.form l.fn.s) (g.S.Space.image l.fn.s) l.fn.self;
 }
 
 abbrev pub decreases-loop-self : goal.decreases-loop-self

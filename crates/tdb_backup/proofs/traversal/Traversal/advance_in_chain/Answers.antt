@@ -1,7 +1,8 @@
 -- Dead records are passed, and a used one gives its pair.
-use Rattle.std.proofs.Common.{◌≡◌, ◌≤◌, ◌∙◌, refl, sym, ap, subst, rules, arith, IsTrue}
+use Rattle.std.proofs.Common.{◌≡◌, ◌+◌, ◌-◌, ◌≤◌, min, max, ◌∙◌, refl, sym, ap, subst, rules, arith, IsTrue}
 use Rattle.std.specs.Prelude.{Some, IfSome}
 use Rattle.tdb_words.specs.declared.record.TheConstants.{USED}
+use Rattle.tdb_words.specs.declared.record.Rec.{Rec}
 use Rattle.tdb_words.specs.Record.{rec_at}
 use Rattle.tdb_space.specs.Form.{data_start}
 use Rattle.tdb_space.specs.Record.{Fits, magic_of}
@@ -9,6 +10,8 @@ use Rattle.tdb_space.specs.Chain.{IsLink}
 use Rattle.tdb_free.proofs.Results.{on_err}
 use Rattle.tdb_backup.specs.Held.{IsPairOf, Shows}
 use Rattle.tdb_backup.specs.Traversal.{pair_at_hand}
+use Rattle.tdb_backup.specs.Reads.{pair_bytes, record_reads}
+use Rattle.tdb_backup.proofs.Costs.{front_cost, front_read, tested, read_whole, used_cost, passed}
 use Rattle.tdb_backup.proofs.Walk.{moved, gave_out, gave_none, gave_kept, stepped_pair, stepped_dead}
 use Rattle.tdb_backup.proofs.traversal.Traversal.advance_in_chain.Goals as goal
 
@@ -97,4 +100,80 @@ loop-self-preserved g c = record {
   looked = search rules;
   faults = search rules;
   bytes_read = search rules;
+  reads = λ told.
+      (let f = g.S.Space.form c.args.s.now in
+      let img = g.S.Space.image c.args.s.now in
+      let t = c.loop-self.self in
+      let rec = c.in-Some.rec in
+      let same = c.record_ahead.ensures.same_place in
+      let looked = c.loop-self.invariant.looked in
+      let above : data_start (g.S.Space.form c.loop-self.s) ≤ t.at = subst (λ o. IfSome o (λ x. data_start (g.S.Space.form c.loop-self.s) ≤ t.at)) c.in-Some.is c.in_ok-rec.ensures.above in
+      let read : rec ≡ rec_at f.order img t.at = subst (λ o. IfSome o (λ x. x ≡ rec_at (g.S.Space.form c.loop-self.s).order (g.S.Space.image c.loop-self.s) t.at)) c.in-Some.is (c.in_ok-rec.ensures.header told) ∙ (λ j. rec_at (looked.form j).order (looked.image j) t.at) in
+      passed f img t (record { next_chain = c.record_ahead.new.self.next_chain; at = rec.next; left = c.record_ahead.new.self.left - 1; held = c.record_ahead.new.self.held }) (g.S.Space.bytes_read c.loop-self.s) (g.S.Space.bytes_read c.record_ahead.new.s) _ c.loop-self-test.true (λ none. omega (arith, none, above)) (ap (λ (x : Rec). x.next) read) (ap (λ n. n - 1) same.1)
+      (omega (arith, c.in_ok-rec.ensures.bytes_read.no_more, front_cost f img t.at (c.args.len - t.at))) (c.loop-self.invariant.reads told));
 }
+
+-- what was read
+pub returns-in_err-rec-clause-reads_at_most : goal.returns-in_err-rec-clause-reads_at_most
+returns-in_err-rec-clause-reads_at_most g c told =
+    let t = c.loop-self.self in
+    record {
+      no_more = tested (g.S.Space.form c.args.s.now) (g.S.Space.image c.args.s.now) t (c.args.len - t.at) (g.S.Space.bytes_read c.loop-self.s) (g.S.Space.bytes_read c.record_ahead.new.s) _ c.loop-self-test.true
+          c.record_ahead.ensures.bytes_read.no_more (c.loop-self.invariant.reads told);
+      never_falls = omega (arith, c.loop-self.invariant.bytes_read, c.record_ahead.ensures.bytes_read.never_falls);
+    }
+
+pub returns-in_default-clause-reads_at_most : goal.returns-in_default-clause-reads_at_most
+returns-in_default-clause-reads_at_most g c told =
+    let t = c.loop-self.self in
+    record {
+      no_more = tested (g.S.Space.form c.args.s.now) (g.S.Space.image c.args.s.now) t (c.args.len - t.at) (g.S.Space.bytes_read c.loop-self.s) (g.S.Space.bytes_read c.record_ahead.new.s) _ c.loop-self-test.true
+          c.record_ahead.ensures.bytes_read.no_more (c.loop-self.invariant.reads told);
+      never_falls = omega (arith, c.loop-self.invariant.bytes_read, c.record_ahead.ensures.bytes_read.never_falls);
+    }
+
+pub returns-clause-reads_at_most : goal.returns-clause-reads_at_most
+returns-clause-reads_at_most g c told = record { no_more = omega (arith, c.loop-self.invariant.reads told); never_falls = c.loop-self.invariant.bytes_read }
+
+pub returns-then-rec-eq-USED-clause-reads : goal.returns-then-rec-eq-USED-clause-reads
+returns-then-rec-eq-USED-clause-reads g c told more =
+    let f = g.S.Space.form c.args.s.now in
+    let img = g.S.Space.image c.args.s.now in
+    let t = c.loop-self.self in
+    let rec = c.in-Some.rec in
+    let same = c.record_ahead.ensures.same_place in
+    let looked = c.loop-self.invariant.looked in
+    let above : data_start (g.S.Space.form c.loop-self.s) ≤ t.at = subst (λ o. IfSome o (λ x. data_start (g.S.Space.form c.loop-self.s) ≤ t.at)) c.in-Some.is c.in_ok-rec.ensures.above in
+    let read : rec ≡ rec_at f.order img t.at = subst (λ o. IfSome o (λ x. x ≡ rec_at (g.S.Space.form c.loop-self.s).order (g.S.Space.image c.loop-self.s) t.at)) c.in-Some.is (c.in_ok-rec.ensures.header told) ∙ (λ j. rec_at (looked.form j).order (looked.image j) t.at) in
+    let end : c.record_ahead.new.self.held.end ≡ min 128 (c.args.len - t.at) = subst (λ o. IfSome o (λ x. c.record_ahead.new.self.held.end ≡ min 128 (c.args.len - t.at))) c.in-Some.is c.in_ok-rec.ensures.end in
+    let cost : c.record_ahead.new.self.held.end + (24 + rec.key_len + rec.data_len - c.record_ahead.new.self.held.end) ≤ record_reads f img t.at =
+    subst (λ x. c.record_ahead.new.self.held.end + (24 + rec.key_len + rec.data_len - c.record_ahead.new.self.held.end) ≤ max 128 (pair_bytes x)) read (used_cost rec c.record_ahead.new.self.held.end c.if-rec-eq-USED.true (omega (arith, end))) in
+    let front = front_read t.at (c.args.len - t.at) (λ none. omega (arith, none, above)) in
+    passed f img t c.take_pair.new.self (g.S.Space.bytes_read c.loop-self.s) (g.S.Space.bytes_read c.take_pair.new.s) _ c.loop-self-test.true (λ none. omega (arith, none, above))
+    (c.in_ok-take_pair.ensures.passed.0 ∙ ap (λ (x : Rec). x.next) read) (c.in_ok-take_pair.ensures.passed.1 ∙ ap (λ n. n - 1) same.1)
+    (omega (arith, c.record_ahead.ensures.bytes_read.no_more, c.take_pair.ensures.bytes_read.no_more, end, cost, front)) (c.loop-self.invariant.reads told)
+
+pub returns-then-rec-eq-USED-clause-reads_at_most : goal.returns-then-rec-eq-USED-clause-reads_at_most
+returns-then-rec-eq-USED-clause-reads_at_most g c told = record {
+  no_more = (let sum = returns-then-rec-eq-USED-clause-reads g c told refl in omega (arith, sum));
+  never_falls = omega (arith, c.loop-self.invariant.bytes_read, c.record_ahead.ensures.bytes_read.never_falls, c.take_pair.ensures.bytes_read.never_falls);
+}
+
+pub returns-in_err-take_pair-clause-reads_at_most : goal.returns-in_err-take_pair-clause-reads_at_most
+returns-in_err-take_pair-clause-reads_at_most g c told =
+    let f = g.S.Space.form c.args.s.now in
+    let img = g.S.Space.image c.args.s.now in
+    let t = c.loop-self.self in
+    let rec = c.in-Some.rec in
+    let looked = c.loop-self.invariant.looked in
+    let above : data_start (g.S.Space.form c.loop-self.s) ≤ t.at = subst (λ o. IfSome o (λ x. data_start (g.S.Space.form c.loop-self.s) ≤ t.at)) c.in-Some.is c.in_ok-rec.ensures.above in
+    let read : rec ≡ rec_at f.order img t.at = subst (λ o. IfSome o (λ x. x ≡ rec_at (g.S.Space.form c.loop-self.s).order (g.S.Space.image c.loop-self.s) t.at)) c.in-Some.is (c.in_ok-rec.ensures.header told) ∙ (λ j. rec_at (looked.form j).order (looked.image j) t.at) in
+    let end : c.record_ahead.new.self.held.end ≡ min 128 (c.args.len - t.at) = subst (λ o. IfSome o (λ x. c.record_ahead.new.self.held.end ≡ min 128 (c.args.len - t.at))) c.in-Some.is c.in_ok-rec.ensures.end in
+    let cost : c.record_ahead.new.self.held.end + (24 + rec.key_len + rec.data_len - c.record_ahead.new.self.held.end) ≤ record_reads f img t.at =
+    subst (λ x. c.record_ahead.new.self.held.end + (24 + rec.key_len + rec.data_len - c.record_ahead.new.self.held.end) ≤ max 128 (pair_bytes x)) read (used_cost rec c.record_ahead.new.self.held.end c.if-rec-eq-USED.true (omega (arith, end))) in
+    let front = front_read t.at (c.args.len - t.at) (λ none. omega (arith, none, above)) in
+    record {
+      no_more = read_whole f img t (g.S.Space.bytes_read c.loop-self.s) (g.S.Space.bytes_read c.take_pair.new.s) _ c.loop-self-test.true (λ none. omega (arith, none, above))
+          (omega (arith, c.record_ahead.ensures.bytes_read.no_more, c.take_pair.ensures.bytes_read.no_more, end, cost, front)) (c.loop-self.invariant.reads told);
+      never_falls = omega (arith, c.loop-self.invariant.bytes_read, c.record_ahead.ensures.bytes_read.never_falls, c.take_pair.ensures.bytes_read.never_falls);
+    }
