@@ -35,7 +35,8 @@ fn free<S: Space>(s: &mut S, place: Place) -> Result<(), Io>
 /// Deletes a key with its value, and says whether it was there. Its record goes to the free list.
 ///
 /// It reads the chain of the key up to its record, and the free list. It takes no memory. `Io` where the disk failed:
-/// then the map has the key or hasn't, and the record may stand in no list.
+/// then the map has the key or hasn't, and the record may stand in no list; at most the key's chain has changed, the
+/// free list, their heads, and bytes that no record holds.
 pub fn delete<S: Space>(s: &mut S, key: &[u8]) -> Result<bool, Io>
     requires short { length key.now < 2 ^ 32 }
     requires chains { 0 < (S.form s.old).chains }

@@ -1,13 +1,13 @@
 // A value is stored for a key.
 
-ghost use Rattle.std.specs.Prelude.{◌≡◌, ◌≢◌, ◌≤◌, ◌<◌, ◌^◌, ◌+◌, ◌⊎◌, [], Some, true, length, IsTrue, IfOk, IfErr, IfSome, OnOk, is_some};
+ghost use Rattle.std.specs.Prelude.{◌≡◌, ◌≢◌, ◌≤◌, ◌<◌, ◌^◌, ◌+◌, ◌⊎◌, [], Some, true, length, IsTrue, IfOk, IfErr, IfSome, OnOk, OnErr, is_some};
 ghost use Rattle.tdb_disk.specs.Count.{HasCauseOf};
 ghost use Rattle.tdb_space.specs.Frame.{Looked, Wrote};
 ghost use Rattle.tdb_space.specs.Accepted.{AcceptWith};
 ghost use Rattle.tdb_space.specs.NewRecord.{rec_len_for as len_for};
 ghost use Rattle.tdb_space.specs.Spare.{without_bound};
 ghost use Rattle.tdb_chain.specs.Place.{StandsWithin, IsFound};
-ghost use Rattle.tdb_edit.specs.Edited.{KeyChanged};
+ghost use Rattle.tdb_edit.specs.Edited.{KeyChanged, OnlyKeyChanges};
 ghost use Rattle.tdb_edit.specs.Stored.{has_room as room_in, FoundNoRoom, FullRightly};
 ghost use Rattle.tdb_edit.specs.declared.refusal.StoreRefusal.TheVariants.{Io as IoIs};
 ghost use Rattle.tdb_free.specs.FreeList.{first_fit};
@@ -88,6 +88,8 @@ fn put<S: Space>(
         → KeyChanged (S.form s.old) (S.image s.old) (S.image s.new) key.now (Some value.now)) }
     ensures full { IfErr result (λ e. IsTrue S.tells → S.size s.old < 2 ^ 32 → AcceptWith (S.form s.old) (S.image s.old) []
         → FoundNoRoom (S.form s.old) (S.image s.old) (len_for (length key.now) (length value.now)) limit e) }
+    ensures broken { OnErr result (IsTrue S.tells → S.size s.old < 2 ^ 32 → AcceptWith (S.form s.old) (S.image s.old) [] → IsFound (S.form s.old) (S.image s.old) key.now over
+        → OnlyKeyChanges (S.form s.old) (S.image s.old) (S.image s.new) key.now) }
     ensures wrote { Wrote S.Space s.old s.new }
     ensures size { (S.size s.new ≡ S.size s.old) ⊎ (grown_length (S.size s.old) (24 + len_for (length key.now) (length value.now)) limit ≡ Some (S.size s.new)) }
     ensures cause { HasCauseOf IoIs (S.faults s.old) (S.faults s.new) result }
@@ -112,6 +114,8 @@ fn set<S: Space>(s: &mut S, key: &[u8], value: &[u8], limit: u64) -> Result<(), 
         → KeyChanged (S.form s.old) (S.image s.old) (S.image s.new) key.now (Some value.now)) }
     ensures full { IfErr result (λ e. IsTrue S.tells → S.size s.old < 2 ^ 32 → AcceptWith (S.form s.old) (S.image s.old) []
         → FoundNoRoom (S.form s.old) (S.image s.old) (len_for (length key.now) (length value.now)) limit e) }
+    ensures broken { OnErr result (IsTrue S.tells → S.size s.old < 2 ^ 32 → AcceptWith (S.form s.old) (S.image s.old) []
+        → OnlyKeyChanges (S.form s.old) (S.image s.old) (S.image s.new) key.now) }
     ensures wrote { Wrote S.Space s.old s.new }
     ensures size { (S.size s.new ≡ S.size s.old) ⊎ (grown_length (S.size s.old) (24 + len_for (length key.now) (length value.now)) limit ≡ Some (S.size s.new)) }
     ensures cause { HasCauseOf IoIs (S.faults s.old) (S.faults s.new) result }
@@ -133,7 +137,8 @@ fn set<S: Space>(s: &mut S, key: &[u8], value: &[u8], limit: u64) -> Result<(), 
 ///
 /// `Full` where no free record is long enough for a new record and the file may not grow by one, also where the value
 /// has room where it stands; then nothing was written, and so where memory is wanting. `Io` where the disk failed: then
-/// the value may be written in part, and records may stand in no list.
+/// the value may be written in part, and records may stand in no list. The file isn't shorter then, and at most the
+/// key's chain has changed, the free list, their heads, and bytes that no record holds.
 ///
 /// The file grows only where a new record is made and no free record is long enough: once, to the greater of its length
 /// with the record and its length with a quarter as much again, in whole pages of 4096 bytes, or by the record alone
@@ -161,6 +166,8 @@ pub fn store<S: Space>(
     ensures full { IfErr result (λ e. IsTrue S.tells → S.size s.old < 2 ^ 32 → AcceptWith (S.form s.old) (S.image s.old) []
         → FullRightly (S.form s.old) (S.image s.old) (len_for (length key.now) (length value.now)) limit e) }
     ensures kept { IfErr result (λ e. IsTrue S.tells → S.size s.old < 2 ^ 32 → AcceptWith (S.form s.old) (S.image s.old) [] → e ≢ IoIs → Looked S.Space s.old s.new) }
+    ensures broken { OnErr result (IsTrue S.tells → S.size s.old < 2 ^ 32 → AcceptWith (S.form s.old) (S.image s.old) []
+        → OnlyKeyChanges (S.form s.old) (S.image s.old) (S.image s.new) key.now) }
     ensures wrote { Wrote S.Space s.old s.new }
     ensures size { (S.size s.new ≡ S.size s.old) ⊎ (grown_length (S.size s.old) (24 + len_for (length key.now) (length value.now)) limit ≡ Some (S.size s.new)) }
     ensures cause { HasCauseOf IoIs (S.faults s.old) (S.faults s.new) result }
