@@ -47,9 +47,9 @@ use Rattle.tdb_answer.proofs.Repacking.{repack_wants}
 -- a failed call behind an act that was done leaves what one in its midst may leave
 done_breaks : (verb : Verb) (limit : ℕ) (old now : History) → Does limit verb old now → Breaks verb old now
 done_breaks (Show key) limit old now does = does
-done_breaks (Insert key value) limit old now does = tt
-done_breaks (Store key value) limit old now does = tt
-done_breaks (Delete key) limit old now does = record { out = []; accepted = does.changed.accepted; map = inr does.changed.map }
+done_breaks (Insert key value) limit old now does = does.changed.only
+done_breaks (Store key value) limit old now does = does.changed.only
+done_breaks (Delete key) limit old now does = record { out = []; accepted = does.changed.accepted; map = inr does.changed.map; only = does.changed.only }
 done_breaks Erase limit old now does = at_end does.wiped
 done_breaks Check limit old now does = does
 done_breaks First limit old now does = does

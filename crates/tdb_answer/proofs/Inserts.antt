@@ -35,6 +35,6 @@ module _ (limit : ℕ) (key value : List ℕ) (old : History) where
     pub inserts_as_stores : (now : History) (r : Result Reply Fault) → Acted limit (Store key value) old now r → Acted limit (Insert key value) old now r
     inserts_as_stores now (Ok reply) acted =
         (acted.0 ∙ sym same_reply, record { done = λ is. acted.1.done (sym same_reply ∙ is); kept = λ other. acted.1.kept (λ is. other (same_reply ∙ is)) })
-    inserts_as_stores now (Err F.Device) acted = tt
+    inserts_as_stores now (Err F.Device) acted = acted
     inserts_as_stores now (Err F.Memory) acted = acted
     inserts_as_stores now (Err F.Log) acted = acted

@@ -14,7 +14,7 @@ use Rattle.tdb_open.specs.Opening.{opened_bytes, CanOpen, UndoneIfOpen, LookBrok
 use Rattle.tdb_answer.specs.Commands.Show.{show_reply}
 use Rattle.tdb_answer.specs.Commands.Check.{check_reply}
 use Rattle.tdb_answer.specs.Commands.Insert.{insert_reply}
-use Rattle.tdb_answer.specs.Commands.Store.{store_reply, Stores}
+use Rattle.tdb_answer.specs.Commands.Store.{store_reply, Stores, StoreBroken}
 use Rattle.tdb_answer.specs.Commands.Delete.{delete_reply, Deletes, DeleteBroken}
 use Rattle.tdb_answer.specs.Commands.Erase.{erase_reply, Erases, EraseBroken}
 use Rattle.tdb_answer.specs.Commands.First.{first_reply, next_reply}
@@ -55,11 +55,11 @@ Does limit TransactionCommit old now = now ≡ old
 Does limit TransactionCancel old now = now ≡ old
 Does limit Quit old now = now ≡ old
 
--- what a call that failed in the midst of an act leaves of an opened file; of an insert and of a store nothing is said
+-- what a call that failed in the midst of an act leaves of an opened file
 abbrev pub Breaks : Verb → History → History → Type 0
 Breaks (Show key) old now = now ≡ old
-Breaks (Insert key value) old now = Unit {0}
-Breaks (Store key value) old now = Unit {0}
+Breaks (Insert key value) old now = StoreBroken key old now
+Breaks (Store key value) old now = StoreBroken key old now
 Breaks (Delete key) old now = DeleteBroken key old now
 Breaks Erase old now = EraseBroken old now
 Breaks Check old now = now ≡ old

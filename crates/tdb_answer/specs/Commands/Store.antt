@@ -5,7 +5,7 @@ use Rattle.tdb_disk.specs.Stop.{Quiet}
 use Rattle.tdb_space.specs.Form.{form_of}
 use Rattle.tdb_space.specs.NewRecord.{rec_len_for}
 use Rattle.tdb_free.specs.Growth.{grown_length}
-use Rattle.tdb_edit.specs.Edited.{KeyChanged}
+use Rattle.tdb_edit.specs.Edited.{KeyChanged, OnlyKeyChanges}
 use Rattle.tdb_edit.specs.Stored.{has_room}
 use Rattle.tdb_answer.specs.declared.ending.Reply.{Reply}
 use Rattle.tdb_answer.specs.declared.ending.Reply.TheVariants.{Done, Full}
@@ -27,9 +27,13 @@ abbrev pub GrewFor : ℕ → ℕ → List ℕ → List ℕ → Type 0
 GrewFor limit need old now = (length now ≡ length old) ⊎ (grown_length (length old) need limit ≡ Some (length now))
 
 -- What a store that was done leaves of a file that had this history: an accepted file of the same form, whose map is
--- the old one with the value at the key, and which grew at most once, for one record. All of it is on the medium. What
--- a call that failed in its midst leaves isn't said.
+-- the old one with the value at the key, and which grew at most once, for one record. All of it is on the medium.
 pub record Stores (limit : ℕ) (key value : List ℕ) (old now : History) : Type 0 where
   pub changed : KeyChanged (form_of (seen old)) (seen old) (seen now) key (Some value)
   pub grown : GrewFor limit (need_for key value) (seen old) (seen now)
   pub quiet : Quiet now
+
+-- And what a call that failed in its midst leaves: a file that isn't shorter, of which at most the key's chain changed,
+-- the free list, their heads, the sequence number, and bytes that no record holds.
+abbrev pub StoreBroken : List ℕ → History → History → Type 0
+StoreBroken key old now = OnlyKeyChanges (form_of (seen old)) (seen old) (seen now) key

@@ -1,6 +1,6 @@
 // The command that stores a value for a key.
 
-ghost use Rattle.std.specs.Prelude.{◌≡◌, ◌≢◌, ◌+◌, ◌^◌, ◌<◌, ◌≤◌, Some, true, length, IsTrue, IfErr, OnOk};
+ghost use Rattle.std.specs.Prelude.{◌≡◌, ◌≢◌, ◌+◌, ◌^◌, ◌<◌, ◌≤◌, Some, true, length, IsTrue, IfErr, OnOk, OnErr};
 ghost use Rattle.tdb_disk.specs.Count.{HasCauseOf};
 ghost use Rattle.tdb_disk.specs.History.{seen};
 ghost use Rattle.tdb_space.specs.Form.{form_of};
@@ -11,7 +11,7 @@ ghost use Rattle.tdb_edit.specs.declared.refusal.StoreRefusal.TheVariants.{Io as
 ghost use Rattle.tdb_cmdline.specs.declared.act.Verb.TheVariants.{Store};
 ghost use Rattle.tdb_open.specs.declared.halt.Fault.TheVariants.{Device};
 ghost use Rattle.tdb_answer.specs.Acts.{Acted};
-ghost use Rattle.tdb_answer.specs.Commands.Store.{need_for, GrewFor};
+ghost use Rattle.tdb_answer.specs.Commands.Store.{need_for, GrewFor, StoreBroken};
 ghost use Rattle.tdb_open.specs.Opening.{IsCheckedOn};
 
 use crate::ending::Reply;
@@ -39,6 +39,7 @@ fn put<D: Disk>(
     ensures room { OnOk result (IsTrue D.tells → has_room (form_of (seen (D.history disk.old))) (seen (D.history disk.old)) (rec_len_for (length key.now) (length value.now)) limit ≡ true) }
     ensures full { IfErr result (λ e. IsTrue D.tells → FullRightly (form_of (seen (D.history disk.old))) (seen (D.history disk.old)) (rec_len_for (length key.now) (length value.now)) limit e) }
     ensures kept { IfErr result (λ e. IsTrue D.tells → e ≢ IoIs → D.history disk.new ≡ D.history disk.old) }
+    ensures broken { OnErr result (IsTrue D.tells → StoreBroken key.now (D.history disk.old) (D.history disk.new)) }
     ensures cause { HasCauseOf IoIs (D.faults disk.old) (D.faults disk.new) result }
 {
     let mut space = Direct::new(disk, &opened.header);
