@@ -35,11 +35,12 @@ StoppedAside w holder h g =
     (g ≡ h) ⊎ ((image : List ℕ) (past : Past) (s : Side) (A : IsAside w holder h image past s) → LeavesOnly h g (StageMayLeave holder.stage h A.known))
 
 -- A turn of an opener failed: outside a transaction, of the one aside, or the first of a Start, of which a stop leaves
--- what one might have left before.
+-- what one might have left before; or of an opener that is shut out, which changes nothing.
 pub data StoppedTurn (w : Whole) (h g : History) (who : ℕ) : Type 0 where
   stopped_in_file : (x : Opener) (t : Task) → HasFile w who x t → StoppedInFile w (seen h) (seen g) who x t → StoppedTurn w h g who
   stopped_aside : (holder : HolderState) → w.aside ≡ Some holder → who ≡ holder.owner → StoppedAside w holder h g → StoppedTurn w h g who
   stopped_at_start : IsAmong w who → is_starting w.starts (law_opener who) ≡ true → LeavesOnly h g (Leaves h) → StoppedTurn w h g who
+  stopped_shut_out : g ≡ h → StoppedTurn w h g who
 
 -- So it is in a world that has a state over this history of its file.
 abbrev pub StopsRightly : Whole → History → History → ℕ → Type 0

@@ -14,7 +14,7 @@ use Rattle.tdb_world.specs.Steps.HasCommand.{by_job}
 use Rattle.tdb_world.specs.Room.{FullOfTurn}
 use Rattle.tdb_world.specs.Room.EndsFullRightly.{full_in_file, full_never}
 use Rattle.tdb_world.specs.Room.StoresNothing.{is_shut_out}
-use Rattle.tdb_world.specs.Stopped.StoppedTurn.{stopped_in_file}
+use Rattle.tdb_world.specs.Stopped.StoppedTurn.{stopped_in_file, stopped_shut_out}
 use Rattle.tdb_world.specs.Stops.{IsChanging, IsSafe}
 use Rattle.tdb_world.specs.Whole.{form_at, WorldFits}
 use Rattle.tdb_txn_turns.proofs.Room.{never}
@@ -192,6 +192,10 @@ pub returns-in-None-clause-no_sync : goal.returns-in-None-clause-no_sync
 returns-in-None-clause-no_sync g c state S never =
     let B = c.requires.busy in
     c.turn_in_file.ensures.no_sync B.0 B.1 B.2 (not_midway c.args.self.now c.args.who B.0 B.1 (g.D.Disk.history c.args.d.now) state c.requires.named B.2 c.requires.among c.requires.begun S never)
+
+-- an opener that is shut out changes nothing
+pub returns-in-Some-clause-stopped : goal.returns-in-Some-clause-stopped
+returns-in-Some-clause-stopped g c = on_err_weaker c.turn_beside.result (λ failed told state S. stopped_shut_out c.turn_beside.ensures.history) c.turn_beside.ensures.cause.failed
 
 pub returns-in-None-clause-stopped : goal.returns-in-None-clause-stopped
 returns-in-None-clause-stopped g c =
