@@ -1,17 +1,14 @@
 -- What a turn of a world leaves of the file where it fails.
-use Rattle.std.specs.Prelude.{ℕ, ◌≡◌, ◌≢◌, ◌⊎◌, List, true, Some}
+use Rattle.std.specs.Prelude.{ℕ, ◌≡◌, ◌⊎◌, List, true, Some}
 use Rattle.tdb_disk.specs.History.{History, seen}
 use Rattle.tdb_disk.specs.Stop.{Leaves, LeavesOnly}
 use Rattle.tdb_space.specs.Stays.{FrontStays}
-use Rattle.tdb_law.specs.Commands.MapCommand.{Wipe}
-use Rattle.tdb_law.specs.Commands.Command.{OnMap}
 use Rattle.tdb_law.specs.OneAside.Sides.{Past, Side}
 use Rattle.tdb_law.specs.World.{State}
 use Rattle.tdb_commands.specs.InLaw.{law_opener}
 use Rattle.tdb_txn_owner.specs.Holders.{HolderState, StageMayLeave}
 use Rattle.tdb_openers.specs.Laws.{other_hands}
 use Rattle.tdb_openers.specs.Stopped.{JobStopped}
-use Rattle.tdb_openers.specs.Worlds.{law_of_task}
 use Rattle.tdb_openers.specs.declared.job.Task.{Task}
 use Rattle.tdb_openers.specs.declared.opener.Opener.{Opener}
 use Rattle.tdb_world.specs.Room.{HasFile}
@@ -19,12 +16,12 @@ use Rattle.tdb_world.specs.States.{IsAside, IsStateOf}
 use Rattle.tdb_world.specs.Steps.{IsAmong}
 use Rattle.tdb_world.specs.Whole.{Whole, form_at, is_starting}
 
--- A turn of an opener that has this task outside a transaction failed, and led from image a to image b. Unless it is a
--- wipe, the file doesn't become shorter, each byte of the header stays but for the sequence number, and so does each
--- byte of the undo area. Behind the header at most the chain of the command's key changed, the free list, their heads,
--- and the record that the command holds, or what a wipe or a purge of the opener's cursor may write to.
+-- A turn of an opener that has this task outside a transaction failed, and led from image a to image b. The file
+-- doesn't become shorter, each byte of the header stays but for the sequence number, and so does each byte of the undo
+-- area. Behind the header at most the chain of the command's key changed, the free list, their heads, and the record
+-- that the command holds, or what a wipe or a purge of the opener's cursor may write to.
 pub record StoppedInFile (w : Whole) (a b : List ℕ) (who : ℕ) (x : Opener) (t : Task) : Type 0 where
-  pub front : (law_of_task t).command ≢ OnMap Wipe → FrontStays (form_at w) a b
+  pub front : FrontStays (form_at w) a b
   pub left : JobStopped (form_at w) a b x.walk.cursor t.job t.steps (other_hands w.openers.openers (law_opener who))
 
 -- A turn of the one aside failed: no call changed the file, or each stop in the turn and behind it leaves what its

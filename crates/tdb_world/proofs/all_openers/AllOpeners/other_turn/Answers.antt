@@ -207,5 +207,5 @@ returns-in-None-clause-stopped g c =
     (let F = file_stands old h state c.requires.fresh c.in-None.ensures.none S in
     let left = stopped told F B.0 B.1 B.2 in
     stopped_in_file B.0 B.1 (record { busy = B.2; among = c.requires.among; begun = c.requires.begun; open_to = c.in-None.ensures.none })
-    (record { front = λ other. job_front (form_at old) (seen h) (seen (g.D.Disk.history c.turn_in_file.new.d)) B.0.walk.cursor B.1.job B.1.steps _ other left; left = left })))
+    (record { front = job_front (form_at old) (seen h) (seen (g.D.Disk.history c.turn_in_file.new.d)) _ F.accepted B.0.walk.cursor B.1.job B.1.steps _ left; left = left })))
     c.turn_in_file.ensures.stopped
