@@ -12,6 +12,7 @@ use Rattle.tdb_tool.specs.declared.fault.SessionFault.{SessionFault}
 use Rattle.tdb_tool.specs.declared.fault.SessionFault.TheVariants as F
 use Rattle.tdb_world.specs.Courses.Scene.{Scene, IsStateAt}
 use Rattle.tdb_tool.specs.Serving.{UnlessBroken, OnBroken, HeardSo, Deed, TellsAll, TellsFront, LeavesAll, LeavesFront, RunsTo, IsUnspent, DoneBetween, Led}
+use Rattle.tdb_tool.proofs.Calling.{calls_after, calls_as, calls_none}
 use Rattle.tdb_tool.proofs.Hearing.{heard_after}
 use Rattle.tdb_tool.proofs.Stops.{LeadsOn, stops_nowhere, stops_after}
 use Rattle.tdb_tool.proofs.Telling.{front_all, front_after}
@@ -104,19 +105,25 @@ on_map (Some F.Device) h a = h a
 on_map (Some F.Log) h a = tt
 on_map (Some F.Memory) h a = tt
 
--- what was done with what stops leave and what logs heard is something else too, and so it is behind something else
+-- what was done with what stops leave, what logs heard and which calls lines tell is something else too, and so it is
+-- behind something else
 pub done_too : (start new : Scene) (answer other : Option SessionFault) (one two : Deed) → ((A : Type 0) → UnlessBroken answer A → UnlessBroken other A)
     → ((lines : List Line) → HeardSo answer start.logs lines new.logs → HeardSo other start.logs lines new.logs) → IsToo one two
     → IsToo (DoneBetween start new answer one) (DoneBetween start new other two)
-done_too start new answer other one two moved told too f old after lines text (done, stops, heard) =
-    (too f old after lines text done, λ safe calm. (let S = stops safe calm in record { stops = S.stops; stays = S.stays; safe = moved (IsSafe f new.over.history) S.safe }), told lines heard)
+done_too start new answer other one two moved told too f old after lines text (done, stops, heard, calls) = (
+  too f old after lines text done,
+  λ safe calm. (let S = stops safe calm in record { stops = S.stops; stays = S.stays; safe = moved (IsSafe f new.over.history) S.safe }),
+  told lines heard,
+  calls_as start new answer other moved lines calls,
+)
 
 done_follows : (start mid new : Scene) (answer : Option SessionFault) (first next both : Deed) → LeadsOn first → Follows first next both
     → Follows (DoneBetween start mid None first) (DoneBetween mid new answer next) (DoneBetween start new answer both)
-done_follows start mid new answer first next both leads follows f old at after front rest text more (done, stops, heard) (went, others, told) = (
+done_follows start mid new answer first next both leads follows f old at after front rest text more (done, stops, heard, calls) (went, others, told, called) = (
   follows f old at after front rest text more done went,
   stops_after f start mid new answer old at front rest (leads f old at front text done) stops others,
   heard_after start.logs mid.logs new.logs front rest answer heard told,
+  calls_after start mid new answer front rest calls called,
 )
 
 module _ (disk_tells told : Bool) where
@@ -128,7 +135,7 @@ module _ (disk_tells told : Bool) where
     unspent = unspent;
     rises = omega arith;
     quiet = refl;
-    runs = λ heard state is. (state, is, ([], [], (nothing (form_at start.over.world) state, (λ safe calm. stops_nowhere start state is safe), refl), λ out. sym (append-nil start.written)));
+    runs = λ heard state is. (state, is, ([], [], (nothing (form_at start.over.world) state, (λ safe calm. stops_nowhere start state is safe), refl, calls_none start), λ out. sym (append-nil start.written)));
     rose = λ heard state is. tt;
   }
 

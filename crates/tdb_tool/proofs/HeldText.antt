@@ -15,25 +15,21 @@ use Rattle.tdb_world.specs.Courses.Scene.{Scene, scene, IsStateAt}
 use Rattle.tdb_tool.specs.declared.fault.SessionFault.{SessionFault}
 use Rattle.tdb_tool.specs.declared.fault.SessionFault.TheVariants as F
 use Rattle.tdb_tool.specs.Serving.{is_broken, UnlessBroken, OnBroken, HeardSo, Deed, TellsAll, TellsFront, LeavesFront, RunsTo, DoneBetween, Led, HeldBehind, EndsPrinted}
+use Rattle.tdb_tool.proofs.Calling.{calls_as, unless_whole}
 use Rattle.tdb_tool.proofs.Coming.{IsToo, all_is_front}
 use Rattle.tdb_tool.proofs.Hearing.{heard_or_not}
 use Rattle.tdb_tool.proofs.Telling.{nothing_behind, front_none, front_of_held}
 
--- what holds unless the disk failed, where it didn't
-unless_whole : {A : Type 0} (answer : Option SessionFault) → is_broken answer ≡ false → UnlessBroken answer A → A
-unless_whole None whole a = a
-unless_whole (Some F.Input) whole a = a
-unless_whole (Some F.Output) whole a = a
-unless_whole (Some F.Device) whole a = absurd (true≢false whole)
-unless_whole (Some F.Log) whole a = a
-unless_whole (Some F.Memory) whole a = a
-
--- what stops leave and what logs heard is the same, whatever was written
+-- what stops leave, what logs heard and which calls lines tell is the same, whatever was written
 done_at : (start : Scene) (b : OverFile) (w now : List ℕ) (logs : List Logged) (answer other : Option SessionFault) (one two : Deed) → ((A : Type 0) → UnlessBroken answer A → UnlessBroken other A)
     → ((lines : List Line) → HeardSo answer start.logs lines logs → HeardSo other start.logs lines logs) → IsToo one two
     → IsToo (DoneBetween start (scene b w logs) answer one) (DoneBetween start (scene b now logs) other two)
-done_at start b w now logs answer other one two moved told too f old after lines text (done, stops, heard) =
-    (too f old after lines text done, λ safe calm. (let S = stops safe calm in record { stops = S.stops; stays = S.stays; safe = moved (IsSafe f b.history) S.safe }), told lines heard)
+done_at start b w now logs answer other one two moved told too f old after lines text (done, stops, heard, calls) = (
+  too f old after lines text done,
+  λ safe calm. (let S = stops safe calm in record { stops = S.stops; stays = S.stays; safe = moved (IsSafe f b.history) S.safe }),
+  told lines heard,
+  calls_as start (scene b w logs) answer other moved lines calls,
+)
 
 -- what was done, where another text was written, of which what is told follows
 module _ (f : Form) (told : Bool) (IsLeft : State → Type 0) (old : State) (before w now : List ℕ) where

@@ -2,6 +2,7 @@ pub mod Telling
 pub mod LineLemmas
 pub mod Stops
 pub mod Hearing
+pub mod Calling
 pub mod Coming
 pub mod HeldText
 pub mod PartLemmas

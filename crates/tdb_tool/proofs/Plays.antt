@@ -27,7 +27,8 @@ use Rattle.tdb_tool.specs.declared.fault.SessionFault.TheVariants as F
 use Rattle.tdb_tool.specs.Parts.{Silent, Told, AllDone, AllCame}
 use Rattle.tdb_tool.specs.Replies.{lines_text, tell_pair}
 use Rattle.tdb_world.specs.Courses.Scene.{Scene, scene, IsStateAt}
-use Rattle.tdb_tool.specs.Serving.{of_run, of_log, fault_of, UnlessBroken, HeardSo, Deed, StopsBetween, DoneBetween, Led, Ran, PlayDone, PlayBegun, Played, EndsPrinted}
+use Rattle.tdb_tool.specs.Serving.{of_run, of_log, fault_of, UnlessBroken, HeardSo, CallsBetween, Deed, StopsBetween, DoneBetween, Led, Ran, PlayDone, PlayBegun, Played, EndsPrinted}
+use Rattle.tdb_tool.proofs.Calling.{calls_taken}
 use Rattle.tdb_tool.proofs.Coming.{IsToo, led_as}
 use Rattle.tdb_tool.proofs.Hearing.{heard_or_refused}
 use Rattle.tdb_tool.proofs.PartLemmas.{one_done, one_begun, all_came}
@@ -77,7 +78,8 @@ module _ (disk_tells told : Bool) (a b : OverFile) (first lines : List Line) (em
         let p = begins form state r.0 taken.led.added r.1 in
         let stops : IsSafe form a.history → IsTransacted form state (law_lines taken.led.added) → StopsBetween Before (After written) (Some F.Device) form state taken.led.added
         = λ safe calm. (let S = taken.stops tells state taken.led.added is taken.led.lines safe calm in record { stops = S.stops; stays = S.stays; safe = tt }) in
-        (r.0, (taken.led.added, p.0, (p.1, stops, taken.heard tells state taken.led.added is taken.led.lines), λ out. (0, omega arith, sym (append-nil written)))));
+        let calls : CallsBetween Before (After written) (Some F.Device) taken.led.added = calls_taken a b first lines taken.led.added (Err Run.Io) (Some F.Device) (λ P p. p) (taken.led.calls tells state is) in
+        (r.0, (taken.led.added, p.0, (p.1, stops, taken.heard tells state taken.led.added is taken.led.lines, calls), λ out. (0, omega arith, sym (append-nil written)))));
     rose = λ tells state is. taken.led.rose tells state is;
   }
   play_broke whole part begins Run.Memory taken spent = record {
@@ -91,7 +93,8 @@ module _ (disk_tells told : Bool) (a b : OverFile) (first lines : List Line) (em
         let p = begins form state r.0 taken.led.added (inl r.2) in
         let stops : IsSafe form a.history → IsTransacted form state (law_lines taken.led.added) → StopsBetween Before (After written) (Some F.Memory) form state taken.led.added
         = λ safe calm. (let S = taken.stops tells state taken.led.added is taken.led.lines safe calm in record { stops = S.stops; stays = S.stays; safe = S.left.3 }) in
-        (r.0, r.1, (taken.led.added, p.0, (p.1, stops, taken.heard tells state taken.led.added is taken.led.lines), λ out. (0, omega arith, sym (append-nil written)))));
+        let calls : CallsBetween Before (After written) (Some F.Memory) taken.led.added = calls_taken a b first lines taken.led.added (Err Run.Memory) (Some F.Memory) (λ P p. p) (taken.led.calls tells state is) in
+        (r.0, r.1, (taken.led.added, p.0, (p.1, stops, taken.heard tells state taken.led.added is taken.led.lines, calls), λ out. (0, omega arith, sym (append-nil written)))));
     rose = λ tells state is. tt;
   }
 
@@ -114,6 +117,10 @@ module _ (disk_tells told : Bool) (a b : OverFile) (first lines : List Line) (em
     heard_as : (told_so : Result (Unit {0}) LogRefusal) → answer ≡ told_so → IsTrue disk_tells → (state : State) → IsStateAt Before state → HeardBy logs lines heard (Ok told_so)
     heard_as told_so so tells state is = subst (λ r. HeardBy logs lines heard (Ok r)) so (taken.heard tells state lines is all_lines)
 
+    -- and its lines tell the calls by which it was, whatever came then
+    calls_at : (now : List ℕ) (after : Option SessionFault) → ((A : Type 0) → A → UnlessBroken after A) → IsTrue disk_tells → (state : State) → IsStateAt Before state → CallsBetween Before (After now) after lines
+    calls_at now after moved tells state is = subst (CallsBetween Before (After now) after) alone (calls_taken a b first lines taken.led.added (Ok answer) after moved (taken.led.calls tells state is))
+
     pub play_silent : (unit : Unit {0}) → answer ≡ Ok unit → Ran disk_tells told Before (After written) (Silent play ∷ []) None
     play_silent unit so = record {
       header = taken.led.header;
@@ -123,7 +130,7 @@ module _ (disk_tells told : Bool) (a b : OverFile) (first lines : List Line) (em
       quiet = taken.led.quiet;
       runs = λ tells state is.
           (let r = gave tells state is written in
-          (r.0, r.1, (lines, [], (silent_done form play state r.0 lines r.2, stops_at tells state is written, heard_as (Ok unit) so tells state is), λ out. sym (append-nil written))));
+          (r.0, r.1, (lines, [], (silent_done form play state r.0 lines r.2, stops_at tells state is written, heard_as (Ok unit) so tells state is, calls_at written None (λ A x. x) tells state is), λ out. sym (append-nil written))));
       rose = λ tells state is. tt;
     }
 
@@ -137,7 +144,7 @@ module _ (disk_tells told : Bool) (a b : OverFile) (first lines : List Line) (em
       rises = taken.led.rises;
       quiet = taken.led.quiet;
       runs = λ tells state is.
-          (let r = gave tells state is now in (r.0, r.1, (lines, lines_text listing lines, ((r.2, refl, gives), stops_at tells state is now, heard_as (Ok unit) so tells state is), all)));
+          (let r = gave tells state is now in (r.0, r.1, (lines, lines_text listing lines, ((r.2, refl, gives), stops_at tells state is now, heard_as (Ok unit) so tells state is, calls_at now None (λ A x. x) tells state is), all)));
       rose = λ tells state is. tt;
     }
 
@@ -149,7 +156,7 @@ module _ (disk_tells told : Bool) (a b : OverFile) (first lines : List Line) (em
           let r = gave tells state is now in
           let stops : IsSafe form a.history → IsTransacted form state (law_lines lines) → StopsBetween Before (After now) (Some fault) form state lines
           = λ safe calm. (let S = stops_at tells state is now safe calm in record { stops = S.stops; stays = S.stays; safe = moved (IsSafe form b.history) S.safe }) in
-          (r.0, r.1, (makes state r.0 r.2, stops, so))
+          (r.0, r.1, (makes state r.0 r.2, stops, so, calls_at now (Some fault) moved tells state is))
 
       -- memory was wanting for its text, of which a front was written
       untold : (IsTrue told → WroteFront written text now) → Led disk_tells told whole part Before (After now) (Some F.Memory)

@@ -1,5 +1,5 @@
 -- A session from its beginning to its end, from what its parts gave.
-use Rattle.std.proofs.Common.{◌≡◌, ℕ, zero, suc, List, [], ◌∷◌, ◌++◌, Option, None, Some, Result, Ok, Err, refl, sym, ◌∙◌, ap, subst, inl, inr}
+use Rattle.std.proofs.Common.{◌≡◌, ℕ, zero, suc, List, [], ◌∷◌, ◌++◌, length, Option, None, Some, Result, Ok, Err, refl, sym, ◌∙◌, ap, subst, inl, inr}
 use Rattle.std.specs.Prelude.{Bool, IsTrue, false}
 use Rattle.std.proofs.lemmas.List.{map-append}
 use Rattle.tdb_disk.specs.History.{seen}
@@ -36,9 +36,11 @@ use Rattle.tdb_tool.specs.declared.order.Order.{Order}
 use Rattle.tdb_tool.specs.Asking.{Session, BeginsBy}
 use Rattle.tdb_tool.specs.Parts.{Silent, doing, parts_of, AllDone, AllCame}
 use Rattle.tdb_world.specs.Courses.Scene.{Scene, IsStateAt}
-use Rattle.tdb_tool.specs.Serving.{fault_of, UnlessBroken, HeardSo, TellsAll, TellsFront, RunsTo, StopsBetween, DoneBetween, Ran, AsksFor, Served, ServedAll}
-use Rattle.tdb_tool.specs.Whole.{closing, session_parts, IsClosed, SessionLed, SessionDeed, beginning_over, StopsOpen, SessionOver, SessionCame, SessionRan}
+use Rattle.tdb_tool.specs.Calls.{CallsFrom}
+use Rattle.tdb_tool.specs.Serving.{fault_of, is_broken, UnlessBroken, HeardSo, CallsBetween, TellsAll, TellsFront, RunsTo, StopsBetween, DoneBetween, Ran, AsksFor, Served, ServedAll}
+use Rattle.tdb_tool.specs.Whole.{closing, session_parts, IsClosed, SessionLed, SessionDeed, beginning_over, StopsOpen, SessionOver, SessionCame, SaidSo, SessionRan}
 use Rattle.tdb_world.specs.Loaded.{IsOver, IsJustLoaded}
+use Rattle.tdb_tool.proofs.Calling.{calls_from}
 use Rattle.tdb_tool.proofs.Coming.{IsToo, all_is_front, unless_map, led_as}
 use Rattle.tdb_tool.proofs.PartLemmas.{all_came, came_more, all_course, came_comes}
 use Rattle.tdb_tool.proofs.PartsRan.{ran_on, ran_memory}
@@ -114,14 +116,14 @@ ends_some : (s : State) → (more : List Line) × EndsWith s more
 ends_some s = unfinished_from s 0 s.joined
 
 module _ (f : Form) (options : Options) (a : List ℕ) (orders : List Order) (old : State) (loaded : IsLoaded f old (options_of options)) (over : IsOver f a old) (told : Bool) (before now : List ℕ)
-    (Stops : State → List LawLine → Type 0) (Hears : List Line → Type 0) where
+    (Stops : State → List LawLine → Type 0) (Said : List Line → Type 0) where
   from_map : (lines : List LawLine) → IsLawful f (beginning (options_of options) old.file old.number) lines → IsLawful f (beginning_over f options a) lines
   from_map lines lawful = subst (λ (q : Map × ℕ). IsLawful f (beginning (options_of options) q.0 q.1) lines) (λ j. (over.file j, over.number j)) lawful
 
   -- all of it was done
   whole : (new : State) (b : List ℕ) → IsReadAs f b new → (EndsWith new [] → FileOpens b) → (new.own 0).live ≡ false → (lines : List Line) (text : List ℕ) → AllDone (session_parts orders) f old lines text new → (IsTrue told → now ≡ before ++ text)
-      → Stops old (law_lines lines) → Hears lines → SessionOver f options a orders b told before now Stops Hears
-  whole new b read opens closed lines text done printed stops heard =
+      → Stops old (law_lines lines) → Said lines → SessionOver f options a orders b told before now Stops Said
+  whole new b read opens closed lines text done printed stops said =
       let course = all_course f (session_parts orders) old new lines text done in
       let end = ends_some new in
       record {
@@ -140,13 +142,13 @@ module _ (f : Form) (options : Options) (a : List ℕ) (orders : List Order) (ol
         lawful = subst (λ ls. IsLawful f (beginning_over f options a) ls) (sym (map-append law_line lines end.0)) (from_map _ (report_lawful f (options_of options) old new course.0 (law_lines lines) end.0 loaded course.1 end.1));
         printed = printed;
         stops = stops;
-        heard = heard;
+        said = said;
       }
 
   -- it came to a state
   came : (new : State) (lines : List Line) (text : List ℕ) → AllCame (session_parts orders) f old lines text new → (IsTrue told → WroteFront before text now) → Stops old (law_lines lines)
-      → Hears lines → SessionCame f options a orders new told before now Stops Hears
-  came new lines text comes printed stops heard =
+      → Said lines → SessionCame f options a orders new told before now Stops Said
+  came new lines text comes printed stops said =
       let coming = came_comes f (session_parts orders) old new lines text comes in
       record {
         old = old;
@@ -158,28 +160,35 @@ module _ (f : Form) (options : Options) (a : List ℕ) (orders : List Order) (ol
         lawful = from_map (law_lines lines) (broken_lawful f (options_of options) old new coming.0 (law_lines lines) loaded coming.1);
         printed = printed;
         stops = stops;
-        heard = heard;
+        said = said;
       }
 
 -- so it ran, by its answer
 module _ (f : Form) (options : Options) (start last : Scene) (orders : List Order) (old : State) (loaded : IsLoaded f old (options_of options)) (over : IsOver f (seen start.over.history) old)
-    (safe : Quiet start.over.history → IsSafe f start.over.history) (told heard : Bool) (text : List ℕ) where
+    (safe : Quiet start.over.history → IsSafe f start.over.history) (form : form_at start.over.world ≡ f) (same : options_at start.over.world ≡ options) (just : IsJustLoaded start.over.world start.over.history old)
+    (sized : length (seen start.over.history) ≡ start.over.size) (left_sized : length (seen last.over.history) ≡ last.over.size) (told heard : Bool) (text : List ℕ) where
   abbrev Opens : State → List LawLine → Type 0
   Opens = StopsOpen f start.over.history last.over.history
 
   opens : (answer : Option SessionFault) (lines : List Line) → (IsSafe f start.over.history → IsTransacted f old (law_lines lines) → StopsBetween start last answer f old lines) → Opens old (law_lines lines)
   opens answer lines stops quiet calm = let S = stops (safe quiet) calm in record { opens = S.stops; stays = S.stays }
 
-  abbrev Hears : Option SessionFault → List Line → Type 0
-  Hears answer lines = HeardSo answer start.logs lines last.logs
+  -- logs heard of its lines, and these tell its calls from a world just loaded
+  abbrev Said : Option SessionFault → List Line → Type 0
+  Said = SaidSo f options start.over.history last.over.history start.logs last.logs
+
+  says : (answer : Option SessionFault) (lines : List Line) → HeardSo answer start.logs lines last.logs → CallsBetween start last answer lines → Said answer lines
+  says answer lines heard calls =
+      let from = subst (λ (q : ℕ × ℕ). CallsFrom start.over.world start.over.history last.over.history q.0 q.1 (is_broken answer ≡ false) lines) (λ j. (sym sized j, sym left_sized j)) (calls_from start last answer lines calls) in
+      (heard, record { world = start.over.world; form = form; options = same; state = old; just = just; from = from })
 
   came_front : (answer : Option SessionFault) (new : State) → TellsFront (DoneBetween start last answer (AllCame (session_parts orders))) f old new told start.written last.written
-      → SessionCame f options (seen start.over.history) orders new told start.written last.written Opens (Hears answer)
-  came_front answer new (lines, all, (comes, stops, heard), printed) =
-      came f options (seen start.over.history) orders old loaded over told start.written last.written Opens (Hears answer) new lines all comes printed (opens answer lines stops) heard
+      → SessionCame f options (seen start.over.history) orders new told start.written last.written Opens (Said answer)
+  came_front answer new (lines, all, (comes, stops, heard, calls), printed) =
+      came f options (seen start.over.history) orders old loaded over told start.written last.written Opens (Said answer) new lines all comes printed (opens answer lines stops) (says answer lines heard calls)
 
   came_all : (answer : Option SessionFault) (new : State) → TellsAll (DoneBetween start last answer (AllCame (session_parts orders))) f old new told start.written last.written
-      → SessionCame f options (seen start.over.history) orders new told start.written last.written Opens (Hears answer)
+      → SessionCame f options (seen start.over.history) orders new told start.written last.written Opens (Said answer)
   came_all answer new all = came_front answer new (all_is_front f told (DoneBetween start last answer (AllCame (session_parts orders))) old new start.written last.written all)
 
   ran_by : (answer : Result SessionEnd SessionFault) → (IsTrue heard → AsksFor text orders answer) → IsClosed answer last
@@ -190,8 +199,8 @@ module _ (f : Form) (options : Options) (start last : Scene) (orders : List Orde
   ran_by (Ok end) asks closed read (new, is, p) = (
     orders,
     asks,
-    whole f options (seen start.over.history) orders old loaded over told start.written last.written Opens (Hears None) new (seen last.over.history) (read new is) (ended_opens last.over.world last.over.history new is) (closed new is) p.0 p.1 p.2.0 p.3
-        (opens None p.0 p.2.1) p.2.2,
+    whole f options (seen start.over.history) orders old loaded over told start.written last.written Opens (Said None) new (seen last.over.history) (read new is) (ended_opens last.over.world last.over.history new is) (closed new is) p.0 p.1 p.2.0 p.3
+        (opens None p.0 p.2.1) (says None p.0 p.2.2 p.2.3),
   )
   ran_by (Err F.Input) asks closed read (new, is, p) = (orders, asks, new, came_all (Some F.Input) new p, read new is)
   ran_by (Err F.Output) asks closed read (new, is, p) = (orders, asks, new, came_front (Some F.Output) new p, read new is)
@@ -205,16 +214,17 @@ module _ (d heard told : Bool) (text : List ℕ) (start last : Scene) (answer : 
   left_read : UnlessBroken (fault_of answer) ((new : State) → IsStateAt last new → IsReadAs (form_at start.over.world) (seen last.over.history) new)
   left_read = unless_map (fault_of answer) (λ kept new left. subst (λ f. IsReadAs f (seen last.over.history) new) (ap form_in kept) (state_reopens last.over.world last.over.history new left)) led.2.header
 
-  pub session_ran : AcceptWith (form_at start.over.world) (seen start.over.history) [] → SessionRan (form_at start.over.world) (options_at start.over.world) start.over.history last.over.history heard text told start.written last.written start.logs last.logs answer
-  session_ran accepted =
+  pub session_ran : AcceptWith (form_at start.over.world) (seen start.over.history) [] → length (seen start.over.history) ≡ start.over.size → length (seen last.over.history) ≡ last.over.size
+      → SessionRan (form_at start.over.world) (options_at start.over.world) start.over.history last.over.history heard text told start.written last.written start.logs last.logs answer
+  session_ran accepted sized left_sized =
       ran_by (form_at start.over.world) (options_at start.over.world) start last led.0 state just.loaded just.over (accepted_safe (form_at start.over.world) start.over.history accepted)
-      told heard text answer led.1 led.3 left_read (led.2.runs tells state just.of_world)
+      refl refl just sized left_sized told heard text answer led.1 led.3 left_read (led.2.runs tells state just.of_world)
 
--- what is said of the stops of a session, and of what logs heard, may be something weaker
+-- what is said of the stops of a session, and of its lines, may be something weaker
 module _ (f : Form) (options : Options) (a : List ℕ) (orders : List Order) (told : Bool) (before now : List ℕ)
     (One Two : State → List LawLine → Type 0) (weaker : (s : State) (lines : List LawLine) → IsOver f a s → One s lines → Two s lines)
-    (Hear Hears : List Line → Type 0) (softer : (lines : List Line) → Hear lines → Hears lines) where
-  pub over_weaker : (b : List ℕ) → SessionOver f options a orders b told before now One Hear → SessionOver f options a orders b told before now Two Hears
+    (Said Says : List Line → Type 0) (softer : (lines : List Line) → Said lines → Says lines) where
+  pub over_weaker : (b : List ℕ) → SessionOver f options a orders b told before now One Said → SessionOver f options a orders b told before now Two Says
   over_weaker b p = record {
     old = p.old;
     loaded = p.loaded;
@@ -231,10 +241,10 @@ module _ (f : Form) (options : Options) (a : List ℕ) (orders : List Order) (to
     lawful = p.lawful;
     printed = p.printed;
     stops = weaker p.old (law_lines p.lines) p.over p.stops;
-    heard = softer p.lines p.heard;
+    said = softer p.lines p.said;
   }
 
-  pub came_weaker : (new : State) → SessionCame f options a orders new told before now One Hear → SessionCame f options a orders new told before now Two Hears
+  pub came_weaker : (new : State) → SessionCame f options a orders new told before now One Said → SessionCame f options a orders new told before now Two Says
   came_weaker new p = record {
     old = p.old;
     loaded = p.loaded;
@@ -245,12 +255,12 @@ module _ (f : Form) (options : Options) (a : List ℕ) (orders : List Order) (to
     lawful = p.lawful;
     printed = p.printed;
     stops = weaker p.old (law_lines p.lines) p.over p.stops;
-    heard = softer p.lines p.heard;
+    said = softer p.lines p.said;
   }
 
 -- a session that was taken whole came as far as its end
-pub over_comes : (f : Form) (options : Options) (a : List ℕ) (orders : List Order) (b : List ℕ) (told : Bool) (before now : List ℕ) (Stops : State → List LawLine → Type 0) (Hears : List Line → Type 0)
-    (p : SessionOver f options a orders b told before now Stops Hears) → SessionCame f options a orders p.new told before now Stops Hears
-over_comes f options a orders b told before now Stops Hears p =
-    came f options a orders p.old p.loaded p.over told before now Stops Hears p.new p.lines p.text (all_came f (session_parts orders) p.old p.new p.lines p.text p.done)
-    (λ heard. front_all before p.text now (p.printed heard)) p.stops p.heard
+pub over_comes : (f : Form) (options : Options) (a : List ℕ) (orders : List Order) (b : List ℕ) (told : Bool) (before now : List ℕ) (Stops : State → List LawLine → Type 0) (Said : List Line → Type 0)
+    (p : SessionOver f options a orders b told before now Stops Said) → SessionCame f options a orders p.new told before now Stops Said
+over_comes f options a orders b told before now Stops Said p =
+    came f options a orders p.old p.loaded p.over told before now Stops Said p.new p.lines p.text (all_came f (session_parts orders) p.old p.new p.lines p.text p.done)
+    (λ heard. front_all before p.text now (p.printed heard)) p.stops p.said

@@ -6,5 +6,6 @@ pub mod Lines
 pub mod Asked
 pub mod Replies
 pub mod Parts
+pub mod Calls
 pub mod Serving
 pub mod Whole

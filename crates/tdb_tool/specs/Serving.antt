@@ -1,5 +1,5 @@
 -- How parts of a session are done over a file, as far as they come, and their text is written.
-use Rattle.std.specs.Prelude.{◌≡◌, ℕ, ◌<◌, ◌≤◌, ◌+◌, ◌⊎◌, Bool, IsTrue, List, ◌∷◌, ◌++◌, Option, None, Some, Result, Ok, Err, IfOk, true, false}
+use Rattle.std.specs.Prelude.{◌≡◌, ℕ, ◌<◌, ◌≤◌, ◌+◌, ◌⊎◌, Bool, IsTrue, List, [], ◌∷◌, ◌++◌, Option, None, Some, Result, Ok, Err, IfOk, true, false}
 use Rattle.tdb_disk.specs.Count.{Rose}
 use Rattle.tdb_disk.specs.Stop.{LeavesOnly}
 use Rattle.tdb_space.specs.Form.{Form}
@@ -14,6 +14,8 @@ use Rattle.tdb_openers.specs.Played.{PlaysLast}
 use Rattle.tdb_world.specs.Whole.{form_at}
 use Rattle.tdb_world.specs.Stops.{IsSafe}
 use Rattle.tdb_world.specs.Courses.Hearing.{Heard, HeardUpTo}
+use Rattle.tdb_world.specs.Courses.Led.{ToldCalls}
+use Rattle.tdb_world.specs.OverFile.{moment_of}
 use Rattle.tdb_world.specs.Courses.Scene.{Scene, IsStateAt}
 use Rattle.tdb_world.specs.Courses.Stops.{IsTransacted, OpensOnTheWay, StaysTold}
 use Rattle.tdb_log.specs.Logs.{Logged}
@@ -120,15 +122,26 @@ HeardSo (Some F.Device) old lines new = HeardOrRefused old lines new
 HeardSo (Some F.Log) old lines new = HeardUpTo Unheard.Failed old lines new
 HeardSo (Some F.Memory) old lines new = HeardOrRefused old lines new
 
--- Something was done between two moments, and logs heard of its lines; and where the file was safe at the first, and
--- the lines are transacted, so it is of stops.
+-- What a world answers of plays that broke off so, if they did: only a failed call of the disk leaves one of which
+-- nothing is known.
+abbrev pub run_answer : Option SessionFault → Result (Unit {0}) RunFault
+run_answer (Some F.Device) = Err Run.Io
+run_answer answer = Ok tt
+
+-- lines tell the calls that led from one moment to another; where the disk failed, those in front of the failed one
+abbrev pub CallsBetween : Scene → Scene → Option SessionFault → List Line → Type 0
+CallsBetween old new answer lines = ToldCalls (moment_of old.over []) (moment_of new.over []) (run_answer answer) lines
+
+-- Something was done between two moments; logs heard of its lines, and these tell the calls that did it. Where the file
+-- was safe at the first, and the lines are transacted, so it is of stops.
 abbrev pub DoneBetween : Scene → Scene → Option SessionFault → Deed → Deed
 DoneBetween old new answer deed f state lines text after =
     deed f state lines text after × (IsSafe f old.over.history → IsTransacted f state (law_lines lines) → StopsBetween old new answer f state lines)
-    × HeardSo answer old.logs lines new.logs
+    × HeardSo answer old.logs lines new.logs × CallsBetween old new answer lines
 
 -- What was done led from one moment to another, and ended so, over a disk and an output that tell or don't: from each
--- state that the world may have had to one that it has afterwards, with what stops meanwhile leave and what logs heard.
+-- state that the world may have had to one that it has afterwards, with what stops meanwhile leave, what logs heard and
+-- which calls the lines tell.
 -- Unless the disk failed the world isn't spent, and the count of faults is as it was.
 pub record Led (disk_tells output_tells : Bool) (whole part : Deed) (old new : Scene) (answer : Option SessionFault) : Type 0 where
   pub header : UnlessBroken answer (new.over.world.openers.header ≡ old.over.world.openers.header)

@@ -1,5 +1,5 @@
 -- A session from its beginning to its end, over an opened image.
-use Rattle.std.specs.Prelude.{◌≡◌, ℕ, Bool, IsTrue, false, None, Some, List, [], ◌∷◌, ◌++◌, Result, Ok, Err}
+use Rattle.std.specs.Prelude.{◌≡◌, ℕ, Bool, IsTrue, false, Option, None, Some, List, [], ◌∷◌, ◌++◌, Result, Ok, Err}
 use Rattle.tdb_disk.specs.History.{History, seen}
 use Rattle.tdb_disk.specs.Stop.{Quiet}
 use Rattle.tdb_words.specs.Word.{word}
@@ -29,7 +29,8 @@ use Rattle.tdb_tool.specs.declared.order.Order.{Order}
 use Rattle.tdb_tool.specs.Asking.{Session, BeginsBy}
 use Rattle.tdb_tool.specs.Parts.{Part, Silent, doing, parts_of, AllDone, AllCame}
 use Rattle.tdb_world.specs.Courses.Scene.{Scene, IsStateAt}
-use Rattle.tdb_tool.specs.Serving.{Deed, fault_of, HeardSo, Led, AsksFor}
+use Rattle.tdb_tool.specs.Calls.{TellsCalls}
+use Rattle.tdb_tool.specs.Serving.{Deed, fault_of, is_broken, HeardSo, Led, AsksFor}
 
 -- the part by which a session ends, and all parts of one: the opener joins, its orders are done, and it closes
 abbrev pub closing : List Part
@@ -67,10 +68,10 @@ StopsOpen f h k start lines = Quiet h → IsTransacted f start lines → OpensAn
 -- All parts of a session were done over the image a, which is b after them, from a world just loaded, and their text
 -- was printed; an open gate undone, b has the map of the state to which they led, in which the opener isn't live. Where
 -- no command is unfinished b can be opened. The whole report, with the lines of what isn't done behind it, is lawful
--- from the map of a on. Stops meanwhile leave what is said of the lines from that world on, and logs heard of them what
--- is said.
+-- from the map of a on. Stops meanwhile leave what is said of the lines from that world on, and of the lines more is
+-- said: what logs heard of them, and which calls they tell.
 pub record SessionOver (f : Form) (options : Options) (a : List ℕ) (orders : List Order) (b : List ℕ) (told : Bool) (before now : List ℕ) (Stops : State → List LawLine → Type 0)
-    (Hears : List Line → Type 0) : Type 0 where
+    (Said : List Line → Type 0) : Type 0 where
   pub old : State
   pub loaded : IsLoaded f old (options_of options)
   pub over : IsOver f a old
@@ -86,12 +87,12 @@ pub record SessionOver (f : Form) (options : Options) (a : List ℕ) (orders : L
   pub lawful : IsLawful f (beginning_over f options a) (law_lines (lines ++ more))
   pub printed : IsTrue told → now ≡ before ++ text
   pub stops : Stops old (law_lines lines)
-  pub heard : Hears lines
+  pub said : Said lines
 
 -- The parts of a session came to a state, and a front of their text was printed. The lines so far are lawful. Stops
--- meanwhile leave what is said of these lines, and logs heard of them what is said.
+-- meanwhile leave what is said of these lines, and more is said of them.
 pub record SessionCame (f : Form) (options : Options) (a : List ℕ) (orders : List Order) (new : State) (told : Bool) (before now : List ℕ) (Stops : State → List LawLine → Type 0)
-    (Hears : List Line → Type 0) : Type 0 where
+    (Said : List Line → Type 0) : Type 0 where
   pub old : State
   pub loaded : IsLoaded f old (options_of options)
   pub over : IsOver f a old
@@ -101,29 +102,34 @@ pub record SessionCame (f : Form) (options : Options) (a : List ℕ) (orders : L
   pub lawful : IsLawful f (beginning_over f options a) (law_lines lines)
   pub printed : IsTrue told → WroteFront before text now
   pub stops : Stops old (law_lines lines)
-  pub heard : Hears lines
+  pub said : Said lines
 
 -- The text begins by asking for orders, and a session of them came so far; an open gate undone, the image b has the map
 -- of the state to which it came.
 abbrev pub CameSo : Form → Options → List ℕ → List ℕ → Bool → List ℕ → Bool → List ℕ → List ℕ → (State → List LawLine → Type 0) → (List Line → Type 0) → Type 0
-CameSo f options a b heard text told before now Stops Hears =
-    (orders : List Order) × (IsTrue heard → BeginsBy text orders) × (new : State) × SessionCame f options a orders new told before now Stops Hears × IsReadAs f b new
+CameSo f options a b heard text told before now Stops Said =
+    (orders : List Order) × (IsTrue heard → BeginsBy text orders) × (new : State) × SessionCame f options a orders new told before now Stops Said × IsReadAs f b new
+
+-- What is said of the lines of a session that broke off so, if it did: what logs heard of them, and which calls they
+-- tell, from one history of the file to another.
+abbrev pub SaidSo : Form → Options → History → History → List Logged → List Logged → Option SessionFault → List Line → Type 0
+SaidSo f options h k logs later answer lines = HeardSo answer logs lines later × TellsCalls f options h k (is_broken answer ≡ false) lines
 
 -- A session over a file, from the moment of one history to that of another, by how it ended, with what stops meanwhile
--- leave, and what logs heard that were as the first and became as the second. Where the disk failed nothing is said of
--- what is read of the file afterwards.
+-- leave, what logs heard that were as the first and became as the second, and which calls its lines tell. Where the
+-- disk failed nothing is said of what is read of the file afterwards.
 abbrev pub SessionRan : Form → Options → History → History → Bool → List ℕ → Bool → List ℕ → List ℕ → List Logged → List Logged → Result SessionEnd SessionFault → Type 0
 SessionRan f options h k heard text told before now logs later (Ok end) =
     (orders : List Order) × (IsTrue heard → Session text orders end)
-    × SessionOver f options (seen h) orders (seen k) told before now (StopsOpen f h k) (λ lines. HeardSo None logs lines later)
+    × SessionOver f options (seen h) orders (seen k) told before now (StopsOpen f h k) (SaidSo f options h k logs later None)
 SessionRan f options h k heard text told before now logs later (Err F.Input) =
-    CameSo f options (seen h) (seen k) heard text told before now (StopsOpen f h k) (λ lines. HeardSo (Some F.Input) logs lines later)
+    CameSo f options (seen h) (seen k) heard text told before now (StopsOpen f h k) (SaidSo f options h k logs later (Some F.Input))
 SessionRan f options h k heard text told before now logs later (Err F.Output) =
-    CameSo f options (seen h) (seen k) heard text told before now (StopsOpen f h k) (λ lines. HeardSo (Some F.Output) logs lines later)
+    CameSo f options (seen h) (seen k) heard text told before now (StopsOpen f h k) (SaidSo f options h k logs later (Some F.Output))
 SessionRan f options h k heard text told before now logs later (Err F.Device) =
     (orders : List Order) × (IsTrue heard → BeginsBy text orders) × (left : State)
-    × SessionCame f options (seen h) orders left told before now (StopsOpen f h k) (λ lines. HeardSo (Some F.Device) logs lines later)
+    × SessionCame f options (seen h) orders left told before now (StopsOpen f h k) (SaidSo f options h k logs later (Some F.Device))
 SessionRan f options h k heard text told before now logs later (Err F.Log) =
-    CameSo f options (seen h) (seen k) heard text told before now (StopsOpen f h k) (λ lines. HeardSo (Some F.Log) logs lines later)
+    CameSo f options (seen h) (seen k) heard text told before now (StopsOpen f h k) (SaidSo f options h k logs later (Some F.Log))
 SessionRan f options h k heard text told before now logs later (Err F.Memory) =
-    CameSo f options (seen h) (seen k) heard text told before now (StopsOpen f h k) (λ lines. HeardSo (Some F.Memory) logs lines later)
+    CameSo f options (seen h) (seen k) heard text told before now (StopsOpen f h k) (SaidSo f options h k logs later (Some F.Memory))

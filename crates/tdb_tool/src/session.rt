@@ -97,6 +97,7 @@ pub fn run_session<D: Disk, I: Source, K: Sink, L: Logs>(
     ensures input_cause { HasCauseOf FaultIs.Input (I.faults input.old) (I.faults input.new) result.1 }
     ensures cause { HasCauseOf FaultIs.Output (K.faults output.old) (K.faults output.new) result.1 }
 {
+    world.stands();
     let answer = serve_and_close(alloc, &mut world, input, output, logs);
     (world.close(), answer)
 }

@@ -1,3 +1,5 @@
+use Rattle.std.proofs.Common.{length, sym, ◌∙◌, ap}
+use Rattle.tdb_disk.specs.History.{seen}
 use Rattle.tdb_tool.proofs.Wholes.{session_ran}
 use Rattle.tdb_tool.proofs.session.run_session.Goals as goal
 
@@ -8,7 +10,8 @@ serve_and_close-answer-requires g c = record { unspent = c.requires.unspent }
 pub returns-clause-session : goal.returns-clause-session
 returns-clause-session g c told state just =
     rw c.close.ensures.history
-    (session_ran g.D.Disk.tells g.I.Source.tells g.K.Sink.tells (g.I.Source.left c.args.input.now) _ _ c.serve_and_close-answer.result c.serve_and_close-answer.ensures.led told state just (c.requires.accepted told))
+    (session_ran g.D.Disk.tells g.I.Source.tells g.K.Sink.tells (g.I.Source.left c.args.input.now) _ _ c.serve_and_close-answer.result c.serve_and_close-answer.ensures.led told state just (c.requires.accepted told) (c.stands.ensures.sized told)
+    (ap (λ h. length (seen h)) (sym c.close.ensures.history) ∙ g.met.D.Disk.told_size c.close.result told ∙ c.close.ensures.size))
 
 pub returns-clause-rises : goal.returns-clause-rises
 returns-clause-rises g c = rw c.close.ensures.faults c.serve_and_close-answer.ensures.led.2.rises
