@@ -23,6 +23,7 @@ pub mod Verifying
 pub mod Runs
 pub mod HeardPlays
 pub mod Coming
+pub mod Calling
 pub mod Stopping
 pub mod Over
 pub mod Served

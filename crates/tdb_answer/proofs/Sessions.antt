@@ -13,8 +13,8 @@ use Rattle.tdb_law.specs.World.{State}
 use Rattle.tdb_tool.proofs.Wholes.{over_comes}
 use Rattle.tdb_log.specs.Logs.{Logged}
 use Rattle.tdb_commands.specs.declared.line.Line.{Line}
-use Rattle.tdb_tool.specs.Serving.{HeardSo}
-use Rattle.tdb_tool.specs.Whole.{SessionCame, StopsOpen}
+use Rattle.tdb_tool.specs.Serving.{fault_of, HeardSo}
+use Rattle.tdb_tool.specs.Whole.{SaidSo, SessionCame, StopsOpen}
 use Rattle.tdb_tool.specs.declared.fault.SessionEnd.{SessionEnd}
 use Rattle.tdb_tool.specs.declared.fault.SessionEnd.TheVariants as End
 use Rattle.tdb_tool.specs.declared.fault.SessionFault.{SessionFault}
@@ -44,12 +44,12 @@ by_lines : (input : Input) (limit : ℕ) (name : List ℕ) (held : Option Histor
 by_lines input limit name held before after e so = inr (inr (inr (record { limit = limit; serves = refl; why = so })))
 
 -- what it wrote is a front of its text
-wrote_front : (f : Form) (options : Options) (a : List ℕ) (orders : List Order) (new : State) (told : Bool) (before now : List ℕ) (Stops : State → List LawLine → Type 0) (Hears : List Line → Type 0) → IsTrue told
-    → SessionCame f options a orders new told before now Stops Hears → (text : List ℕ) × SessionCame f options a orders new true [] text (λ start lines. Unit {0}) (λ lines. Unit {0}) × (now ≡ before ++ text)
-wrote_front f options a orders new told before now Stops Hears heard p =
+wrote_front : (f : Form) (options : Options) (a : List ℕ) (orders : List Order) (new : State) (told : Bool) (before now : List ℕ) (Stops : State → List LawLine → Type 0) (Said : List Line → Type 0) → IsTrue told
+    → SessionCame f options a orders new told before now Stops Said → (text : List ℕ) × SessionCame f options a orders new true [] text (λ start lines. Unit {0}) (λ lines. Unit {0}) × (now ≡ before ++ text)
+wrote_front f options a orders new told before now Stops Said heard p =
     let w = p.printed heard in (
       take w.0 p.text,
-      record { old = p.old; loaded = p.loaded; over = p.over; lines = p.lines; text = p.text; came = p.came; lawful = p.lawful; printed = λ always. (w.0, w.1, refl); stops = tt; heard = tt },
+      record { old = p.old; loaded = p.loaded; over = p.over; lines = p.lines; text = p.text; came = p.came; lawful = p.lawful; printed = λ always. (w.0, w.1, refl); stops = tt; said = tt },
       w.2,
     )
 
@@ -82,21 +82,24 @@ module _ (limit : ℕ) (input : Input) (name : List ℕ) (h now : History) (told
       abbrev Opens : (answer : Result SessionEnd SessionFault) → SessionOn limit input h now told w0 w1 logs later answer → State → List LawLine → Type 0
       Opens answer on = StopsOpen (form_of (seen on.opened)) on.opened now
 
-      came_front : (answer : Result SessionEnd SessionFault) (on : SessionOn limit input h now told w0 w1 logs later answer) (Hears : List Line → Type 0) (orders : List Order) (new : State)
-          → SessionCame (form_of (seen on.opened)) (session_options limit) (seen on.opened) orders new told w0 w1 (Opens answer on) Hears → Front
-      came_front answer on Hears orders new p =
-          let w = wrote_front (form_of (seen on.opened)) (session_options limit) (seen on.opened) orders new told w0 w1 (Opens answer on) Hears heard p in
+      -- and what is said of its lines
+      abbrev Said : (answer : Result SessionEnd SessionFault) → SessionOn limit input h now told w0 w1 logs later answer → List Line → Type 0
+      Said answer on = SaidSo (form_of (seen on.opened)) (session_options limit) on.opened now on.mid later (fault_of answer)
+
+      came_front : (answer : Result SessionEnd SessionFault) (on : SessionOn limit input h now told w0 w1 logs later answer) (orders : List Order) (new : State)
+          → SessionCame (form_of (seen on.opened)) (session_options limit) (seen on.opened) orders new told w0 w1 (Opens answer on) (Said answer on) → Front
+      came_front answer on orders new p =
+          let w = wrote_front (form_of (seen on.opened)) (session_options limit) (seen on.opened) orders new told w0 w1 (Opens answer on) (Said answer on) heard p in
           (w.0, subst (λ img. RepliesFront limit img w.0) on.is_opened.reads (orders, new, w.1), w.2)
 
       whole_front : (end : SessionEnd) (on : SessionOn limit input h now told w0 w1 logs later (Ok end)) → Front
       whole_front end on =
-          let Hears : List Line → Type 0 = λ lines. Heard on.mid lines later in
-          came_front (Ok end) on Hears on.ran.0 _ (over_comes (form_of (seen on.opened)) (session_options limit) (seen on.opened) on.ran.0 (seen now) told w0 w1 (Opens (Ok end) on) Hears on.ran.2)
+          came_front (Ok end) on on.ran.0 _ (over_comes (form_of (seen on.opened)) (session_options limit) (seen on.opened) on.ran.0 (seen now) told w0 w1 (Opens (Ok end) on) (Said (Ok end) on) on.ran.2)
 
       -- one that broke off
       broken_front : (fault : SessionFault) (on : SessionOn limit input h now told w0 w1 logs later (Err fault)) (orders : List Order) (new : State)
-          → SessionCame (form_of (seen on.opened)) (session_options limit) (seen on.opened) orders new told w0 w1 (Opens (Err fault) on) (λ lines. HeardSo (Some fault) on.mid lines later) → Front
-      broken_front fault on = came_front (Err fault) on (λ lines. HeardSo (Some fault) on.mid lines later)
+          → SessionCame (form_of (seen on.opened)) (session_options limit) (seen on.opened) orders new told w0 w1 (Opens (Err fault) on) (Said (Err fault) on) → Front
+      broken_front fault on = came_front (Err fault) on
 
       pub began_session : (r : Result Ending Unprinted) → On r → Began (SessionText limit held) w0 w1 r
       began_session r on = subst (λ o. Began (SessionText limit o) w0 w1 r) (sym there) (of r on)
@@ -121,22 +124,24 @@ module _ (limit : ℕ) (input : Input) (name : List ℕ) (h now : History) (told
 
 -- what logs heard of a session over a file that is there
 module _ (limit : ℕ) (input : Input) (h now : History) (told : Bool) (w0 w1 : List ℕ) (logs later : List Logged) where
-  heard_lines : (answer : Result SessionEnd SessionFault) (on : SessionOn limit input h now told w0 w1 logs later answer) (Hears : List Line → Type 0) (orders : List Order) (new : State)
-      → SessionCame (form_of (seen on.opened)) (session_options limit) (seen on.opened) orders new told w0 w1 (StopsOpen (form_of (seen on.opened)) on.opened now) Hears
-      → (e : Ending) → ((lines : List Line) → Hears lines → ReportHeard e on.mid lines later) → FileServed limit (seen h) e logs later
-  heard_lines answer on Hears orders new p e softer =
-      served_report on.mid p.lines on.opening (subst (λ img. IsSessionReport limit img p.lines) on.is_opened.reads (orders, p.old, new, p.text, p.loaded, p.over, p.came)) (softer p.lines p.heard)
+  abbrev SaidBy : (answer : Result SessionEnd SessionFault) → SessionOn limit input h now told w0 w1 logs later answer → List Line → Type 0
+  SaidBy answer on = SaidSo (form_of (seen on.opened)) (session_options limit) on.opened now on.mid later (fault_of answer)
+
+  heard_lines : (answer : Result SessionEnd SessionFault) (on : SessionOn limit input h now told w0 w1 logs later answer) (orders : List Order) (new : State)
+      → SessionCame (form_of (seen on.opened)) (session_options limit) (seen on.opened) orders new told w0 w1 (StopsOpen (form_of (seen on.opened)) on.opened now) (SaidBy answer on)
+      → (e : Ending) → ((lines : List Line) → HeardSo (fault_of answer) on.mid lines later → ReportHeard e on.mid lines later) → FileServed limit (seen h) e logs later
+  heard_lines answer on orders new p e softer =
+      served_report on.mid p.lines on.opening (subst (λ img. IsSessionReport limit img p.lines) on.is_opened.reads (orders, p.old, new, p.text, p.loaded, p.over, p.came)) (softer p.lines p.said.0)
 
   heard_whole : (end : SessionEnd) (on : SessionOn limit input h now told w0 w1 logs later (Ok end)) (e : Ending) → ((lines : List Line) → Heard on.mid lines later → ReportHeard e on.mid lines later) → FileServed limit (seen h) e logs later
   heard_whole end on =
-      let Hears : List Line → Type 0 = λ lines. Heard on.mid lines later in
-      heard_lines (Ok end) on Hears on.ran.0 on.ran.2.new
-      (over_comes (form_of (seen on.opened)) (session_options limit) (seen on.opened) on.ran.0 (seen now) told w0 w1 (StopsOpen (form_of (seen on.opened)) on.opened now) Hears on.ran.2)
+      heard_lines (Ok end) on on.ran.0 on.ran.2.new
+      (over_comes (form_of (seen on.opened)) (session_options limit) (seen on.opened) on.ran.0 (seen now) told w0 w1 (StopsOpen (form_of (seen on.opened)) on.opened now) (SaidBy (Ok end) on) on.ran.2)
 
   heard_broken : (fault : SessionFault) (on : SessionOn limit input h now told w0 w1 logs later (Err fault)) (orders : List Order) (new : State)
-      → SessionCame (form_of (seen on.opened)) (session_options limit) (seen on.opened) orders new told w0 w1 (StopsOpen (form_of (seen on.opened)) on.opened now) (λ lines. HeardSo (Some fault) on.mid lines later)
+      → SessionCame (form_of (seen on.opened)) (session_options limit) (seen on.opened) orders new told w0 w1 (StopsOpen (form_of (seen on.opened)) on.opened now) (SaidBy (Err fault) on)
       → (e : Ending) → ((lines : List Line) → HeardSo (Some fault) on.mid lines later → ReportHeard e on.mid lines later) → FileServed limit (seen h) e logs later
-  heard_broken fault on = heard_lines (Err fault) on (λ lines. HeardSo (Some fault) on.mid lines later)
+  heard_broken fault on = heard_lines (Err fault) on
 
   pub file_heard : (r : Result Ending Unprinted) → SessionFile limit input h now told w0 w1 logs later r → FileServed limit (seen h) (ending_of r) logs later
   file_heard _ (file_unopened halt opened safe same notices) = served_halt halt refl notices

@@ -27,7 +27,7 @@ use Rattle.tdb_world.specs.Whole.{Whole, form_at}
 use Rattle.tdb_world.proofs.Reopening.{state_reopens}
 use Rattle.tdb_world.specs.Courses.Hearing.{RunsAsTold}
 use Rattle.tdb_world.specs.OverFile.{OverFile, HasState, moment_of}
-use Rattle.tdb_world.specs.Courses.Led.{Comes, Led}
+use Rattle.tdb_world.specs.Courses.Led.{Comes, Led, ToldCalls}
 use Rattle.tdb_world.specs.Courses.Stops.{IsTransacted, Leads, OpensAndStays, OpensOnTheWay, StopsLed}
 use Rattle.tdb_world.specs.Courses.Unfinished.{AreUnfinished}
 use Rattle.tdb_openers.proofs.Joining.Courses.{course_join}
@@ -40,9 +40,10 @@ use Rattle.tdb_open.specs.Opening.{log_fault}
 use Rattle.tdb_open.specs.declared.halt.Fault.TheVariants as F
 use Rattle.tdb_answer.specs.declared.ending.Unprinted.TheVariants as Rest
 use Rattle.tdb_world.specs.Courses.Scene.{Scene, scene, IsStateAt}
-use Rattle.tdb_answer.specs.Playing.{PlaysEnd, UnlessBroken, OnBroken, end_of}
+use Rattle.tdb_answer.specs.Playing.{PlaysEnd, UnlessBroken, OnBroken, end_of, run_answer}
 use Rattle.tdb_answer.specs.Stops.{LeavesOnTheWay, StopsTold, StopsOver, OnlyUnfinished, WroteOf, WroteWhole}
 use Rattle.tdb_answer.proofs.Coming.{front_either, text_more, unless_end, unless_map, unless_sound}
+use Rattle.tdb_answer.proofs.Calling.{calls_none, calls_of, calls_on, calls_over}
 
 -- a report that goes on in another one is calm where both are
 module _ (f : Form) (old mid : State) (front rest : List LawLine) where
@@ -67,6 +68,7 @@ module _ (disk_tells told : Bool) where
     front = λ out. (0, omega arith, sym (append-nil start.written));
     all = λ is heard state at. (state, at, (refl, refl));
     left = λ heard state at. (state, at, whole_comes (form_at start.over.world) [] state state [] (refl, refl));
+    calls = λ heard state at. calls_none start;
     stops = λ heard state is safe calm. record {
       stops = leaves_start start.over.history _ (λ c left. here_opens start.over.world start.over.history state [] c is (safe c left));
       stays = nothing_stays (form_at start.over.world) start.over.history start.over.history state;
@@ -140,6 +142,7 @@ module _ (disk_tells told : Bool) where
       front = λ out. subst (λ t. WroteFront start.written t new.written) (sym (text_more first.lines next.lines)) (front_after start.written mid.written new.written (report_text first.lines) (report_text next.lines) (first.whole refl out) (next.front out));
       all = all_both;
       left = left_both;
+      calls = λ heard state at. (let p = first.all refl heard state at in calls_on start mid new answer first.lines next.lines (first.calls heard state at) (next.calls heard p.0 p.1));
       stops = stops_both;
     }
 
@@ -154,6 +157,7 @@ module _ (disk_tells told : Bool) where
         unless_map answer
         (λ q. (q.0, q.1, subst (λ ps. ComesTo (form_at start.over.world) state ps (law_lines t.lines) q.0) (sym (map-append law_play plays rest)) (comes_more (form_at start.over.world) (law_plays plays) (law_plays rest) state q.0 (law_lines t.lines) q.2)))
         (t.left heard state at);
+    calls = t.calls;
     stops = t.stops;
   }
 
@@ -200,11 +204,15 @@ module _ (disk_tells told : Bool) (a b : OverFile) (first lines : List Line) (em
     front = front_either (IsTrue told) before (report_text lines) now untold all front;
     all = λ is heard s at. subst (λ p. Told p s lines) (all_done played untold is).0 (from heard s at);
     left = λ heard s at. unless_end _ played untold (came played s (from heard s at));
+    calls = λ heard s at. subst (ToldCalls (moment_of a []) (moment_of b []) (run_answer (end_of played untold))) alone (calls_of a b first lines tells.added played untold (tells.calls heard s at));
     stops = λ heard state is safe calm. (let s = led heard state lines is (ap (λ ls. ls ++ lines) (sym empty)) safe calm in record { stops = s.stops; stays = s.stays; left = unless_end _ played untold s.left });
   }
     where
+      alone : tells.added ≡ lines
+      alone = sym (tells.lines ∙ ap (λ ls. ls ++ tells.added) empty)
+
       from : IsTrue disk_tells → (s : State) → HasState a s → Told played s lines
-      from heard s at = subst (Told played s) (sym (tells.lines ∙ ap (λ ls. ls ++ tells.added) empty)) (tells.told heard s at)
+      from heard s at = subst (Told played s) alone (tells.told heard s at)
 
 -- the lines of a world's commands that aren't done tell of nothing else
 pub only_unfinished : (w : Whole) (o n : ℕ) (lines : List Line) → AreUnfinished w o n lines → OnlyUnfinished lines
@@ -216,7 +224,7 @@ only_unfinished w o (suc n) lines (inr none) = only_unfinished w (suc o) n lines
 module _ (disk_tells told : Bool) (old new : Scene) (plays : List Play) (answer : PlaysEnd) (t : StopsTold disk_tells told old new plays answer) (done sound : Type 0)
     (read : (after : State) → IsStateAt new after → UnlessBroken answer (IsReadAs (form_at old.over.world) (seen new.over.history) after))
     (unbroken : sound → IsTrue disk_tells → (state : State) → IsStateAt old state → OnBroken answer ⊥) where
-  over : (after : List ℕ) → (IsTrue told → WroteOf t.lines old.written after) → (done → IsTrue told → WroteWhole t.lines old.written after) → StopsOver old.over.world disk_tells told plays done sound old.over.history new.over.history old.written after
+  over : (after : List ℕ) → (IsTrue told → WroteOf t.lines old.written after) → (done → IsTrue told → WroteWhole t.lines old.written after) → StopsOver old.over.world disk_tells told plays done sound old.over.history new.over.history old.over.size new.over.size old.written after
   over after printed whole = record {
     lines = t.lines;
     printed = printed;
@@ -224,16 +232,17 @@ module _ (disk_tells told : Bool) (old new : Scene) (plays : List Play) (answer 
     left = λ so heard state at.
         (let none = unbroken so heard state at in
         let c = unless_sound answer none (t.left heard state at) in (c.0, c.2, inl (unless_sound answer none (read c.0 c.1))));
+    calls = λ heard state at. calls_over old new answer t.lines sound (λ so. unbroken so heard state at) (t.calls heard state at);
     stops = λ heard state is safe calm. (let s = t.stops heard state is safe calm in record { opens = s.stops; stays = s.stays });
   }
 
-  pub stops_broken : (done → ⊥) → StopsOver old.over.world disk_tells told plays done sound old.over.history new.over.history old.written new.written
+  pub stops_broken : (done → ⊥) → StopsOver old.over.world disk_tells told plays done sound old.over.history new.over.history old.over.size new.over.size old.written new.written
   stops_broken not =
       over new.written (λ out. (let w = t.front out in ([], tt, w.0, w.2 ∙ ap (λ ls. old.written ++ take w.0 (report_text ls)) (sym (append-nil t.lines)))))
       (λ is out. absurd (not is))
 
   pub stops_finished : (more : List Line) (after : List ℕ) → OnlyUnfinished more → answer ≡ Ok (Ok tt) → (done → IsTrue told → after ≡ new.written ++ report_text more) → (IsTrue told → WroteFront new.written (report_text more) after)
-      → StopsOver old.over.world disk_tells told plays done sound old.over.history new.over.history old.written after
+      → StopsOver old.over.world disk_tells told plays done sound old.over.history new.over.history old.over.size new.over.size old.written after
   stops_finished more after only is all front =
       over after
       (λ out. (let w = front_after old.written new.written after (report_text t.lines) (report_text more) (t.whole is out) (front out) in

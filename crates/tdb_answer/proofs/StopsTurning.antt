@@ -21,6 +21,8 @@ use Rattle.tdb_steps.specs.Turns.{number_of}
 use Rattle.tdb_open.specs.declared.halt.Halt.{Halt}
 use Rattle.tdb_open.specs.declared.halt.Halt.TheVariants as H
 use Rattle.tdb_open.specs.Loading.{IsOpened, OpensToTurn, OpenedToTurn, TurnOpened}
+use Rattle.tdb_commands.specs.declared.line.Line.{Line}
+use Rattle.tdb_tool.specs.Calls.{CallsFrom}
 use Rattle.tdb_world.specs.Loaded.{IsOver, IsJustLoaded}
 use Rattle.tdb_world.specs.Whole.{Whole, form_at, options_at}
 use Rattle.tdb_openers.proofs.Joining.Courses.{course_whole}
@@ -36,11 +38,13 @@ use Rattle.tdb_answer.specs.Output.{output_by}
 use Rattle.tdb_answer.specs.Printed.{Finishes}
 use Rattle.tdb_open.specs.Opening.{OpensSafely}
 use Rattle.tdb_open.specs.declared.halt.Fault.TheVariants as F
+use Rattle.tdb_answer.specs.Calls.{TellsCallsSince}
 use Rattle.tdb_answer.specs.Playing.{PlaysEnd, end_told}
 use Rattle.tdb_answer.specs.Input.{Input}
 use Rattle.tdb_answer.specs.Safe.{IsLeftAs}
 use Rattle.tdb_answer.specs.Stops.{StopsOver, StopsOfTurns, StopsHeld, StopsScripted, WroteLine}
 use Rattle.tdb_tool.proofs.Stops.{accepted_safe}
+use Rattle.tdb_answer.proofs.Calling.{since_when}
 use Rattle.tdb_answer.proofs.Held.{same_held}
 use Rattle.tdb_open.proofs.Openings.{still_safe}
 use Rattle.tdb_answer.proofs.Runs.{opened_same}
@@ -50,9 +54,20 @@ use Rattle.tdb_open.proofs.ToTurn.{opened_short}
 own_shut : (f : Form) (img : List ℕ) → AcceptWith f img [] → opened_bytes img ≡ img
 own_shut f img A = read_as_it_is (form_of img) img (subst (λ g. Shut g img) (sym A.form) A.shut)
 
+-- the lines of plays in a world that was just loaded over an accepted file tell its calls
+told_opened : (w : Whole) (h now : History) (sound : Type 0) (lines : List Line) (state : State) → IsJustLoaded w h state → AcceptWith (form_at w) (seen h) []
+    → CallsFrom w h now (length (seen h)) (length (seen now)) sound lines → TellsCallsSince (options_at w) h now sound lines
+told_opened w h now sound lines state just A from =
+    inr (h, sym (own_shut (form_at w) (seen h) A), record { world = w; form = sym A.form; options = refl; state = state; just = just; from = from })
+
+-- and they tell those since the file was opened
+told_since : (options : Options) (old mid now : History) (sound : Type 0) (lines : List Line) → Accept (seen mid) → seen mid ≡ opened_bytes (seen old) → TellsCallsSince options mid now sound lines → TellsCallsSince options old now sound lines
+told_since options old mid now sound lines A reads (inl none) = inl none
+told_since options old mid now sound lines A reads (inr (opened, is, T)) = inr (opened, is ∙ own_shut (form_of (seen mid)) (seen mid) A ∙ reads, T)
+
 -- all plays in a world that was just loaded over an accepted file
 pub turns_of : (w : Whole) (plays : List Play) (h now : History) (disk_tells told : Bool) (done sound : Type 0) (before after : List ℕ) (state : State) → IsJustLoaded w h state → AcceptWith (form_at w) (seen h) [] → IsTrue disk_tells
-    → StopsOver w disk_tells told plays done sound h now before after → StopsOfTurns (form_at w) (options_at w) plays h now told done sound before after
+    → StopsOver w disk_tells told plays done sound h now (length (seen h)) (length (seen now)) before after → StopsOfTurns (form_at w) (options_at w) plays h now told done sound before after
 turns_of w plays h now disk_tells told done sound before after state just A heard S = record {
   lines = S.lines;
   start = state;
@@ -61,6 +76,7 @@ turns_of w plays h now disk_tells told done sound before after state just A hear
   printed = S.printed;
   whole = S.whole;
   left = λ so. S.left so heard state just.of_world;
+  calls = told_opened w h now sound S.lines state just A (S.calls heard state just.of_world);
   stops = λ quiet again calm. S.stops heard state just.of_world (accepted_safe (form_at w) h A quiet) calm;
 }
 
@@ -139,6 +155,7 @@ unopened_stops options plays old now told done sound written can safe kept =
       printed = λ out. ([], tt, 0, sym (append-nil written));
       whole = λ is out. ([], tt, sym (append-nil written));
       left = λ so. (fresh f options r, course_whole f [] (law_plays plays) (fresh f options r) (fresh f options r) [] (refl, refl), kept_left f old now (fresh f options r) can.opens.accepted over (kept so));
+      calls = inl refl;
       stops = λ quiet again calm. record {
         opens = leaves_weaker old now (Reopens r) (OpensOnTheWay f (fresh f options r) []) (start_opens f r (fresh f options r) [] over) (safe quiet can.opens again);
         stays = nothing_stays f old now (fresh f options r);
@@ -168,6 +185,7 @@ opened_stops options plays old mid now told done sound ended calm before after t
       printed = p.printed;
       whole = λ is. p.whole (to is);
       left = λ so. p.left (still so);
+      calls = since_when options old now calm sound p.lines still (told_since options old mid now calm p.lines A opened.reads p.calls);
       stops = λ quiet again calm.
           opens_before f old mid now p.start (law_lines p.lines)
           (leaves_weaker old mid (Reopens r) (OpensOnTheWay f p.start (law_lines p.lines)) (start_opens f r p.start (law_lines p.lines) over) (safe quiet can.opens again))
@@ -191,7 +209,7 @@ module _ (options : Options) (plays : List Play) (held given : Option History) (
   stops_when less calm before after to still S old is opens =
       let s = S old is opens in
       let p = s.2 in
-      (s.0, s.1, record { lines = p.lines; start = p.start; loaded = p.loaded; over = p.over; printed = p.printed; whole = λ so. p.whole (to so); left = λ so. p.left (still so); stops = p.stops })
+      (s.0, s.1, record { lines = p.lines; start = p.start; loaded = p.loaded; over = p.over; printed = p.printed; whole = λ so. p.whole (to so); left = λ so. p.left (still so); calls = since_when options old s.0 sound calm p.lines still p.calls; stops = p.stops })
 
 -- where no play was taken
 pub unscripted_stops : (input : Input) (options : Options) (held : Option History) (told : Bool) (done sound : Type 0) (written : List ℕ) → StopsScripted input options held held told done sound written written

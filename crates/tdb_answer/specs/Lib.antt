@@ -12,6 +12,7 @@ pub mod Reads
 pub mod Left
 pub mod Printed
 pub mod Run
+pub mod Calls
 pub mod Safe
 pub mod Stops
 pub mod Takes

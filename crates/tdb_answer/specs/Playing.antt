@@ -75,6 +75,12 @@ broke_off (Ok (Err F.Memory)) = Some Broke.Memory
 broke_off (Ok (Err F.Log)) = Some Broke.Log
 broke_off (Err unprinted) = Some Broke.Output
 
+-- What a world answers of plays that end so: only a failed call of the disk leaves one of which nothing is known.
+abbrev pub run_answer : PlaysEnd → Result (Unit {0}) RunFault
+run_answer (Ok (Err F.Device)) = Err Run.Io
+run_answer (Err Rest.Fault) = Err Run.Io
+run_answer answer = Ok tt
+
 -- All plays were taken from a state to another, and their lines written behind what was there; or they came to a
 -- state, and a front of the text of their lines was written. The logs heard of the same lines.
 abbrev pub TellsAll : Form → State → List Play → State → Bool → List ℕ → List ℕ → List Logged → List Logged → Type 0

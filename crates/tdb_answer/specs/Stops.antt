@@ -21,14 +21,18 @@ use Rattle.tdb_openers.specs.Played.{ComesTo}
 use Rattle.tdb_world.specs.Stops.{IsSafe}
 use Rattle.tdb_world.specs.States.{IsStateOf}
 use Rattle.tdb_world.specs.Whole.{Whole, form_at}
+use Rattle.tdb_world.specs.Courses.Led.{ToldCalls}
 use Rattle.tdb_world.specs.Courses.Stops.{IsTransacted, Leads, OpensAndStays, OpensOnTheWay, StaysTold}
+use Rattle.tdb_world.specs.OverFile.{moment_of}
+use Rattle.tdb_tool.specs.Calls.{CallsFrom}
 use Rattle.tdb_answer.specs.declared.ending.Ending.{Ending}
 use Rattle.tdb_answer.specs.Commands.Turns.{HasScript}
 use Rattle.tdb_answer.specs.Ending.{text_of}
 use Rattle.tdb_answer.specs.Input.{Input}
 use Rattle.tdb_open.specs.Opening.{opened_bytes}
 use Rattle.tdb_world.specs.Courses.Scene.{Scene, IsStateAt}
-use Rattle.tdb_answer.specs.Playing.{PlaysEnd, UnlessBroken}
+use Rattle.tdb_answer.specs.Calls.{TellsCallsSince}
+use Rattle.tdb_answer.specs.Playing.{PlaysEnd, UnlessBroken, run_answer}
 use Rattle.tdb_answer.specs.Run.{Run}
 use Rattle.tdb_answer.specs.Safe.{StopsSince, IsLeftAs}
 
@@ -42,8 +46,9 @@ pub record LeavesOnTheWay (old new : Scene) (answer : PlaysEnd) (state : State) 
 
 -- Plays ended so between two moments, and their lines were written, or a front of the text of these. Unless the disk
 -- failed these lines tell the plays, as far as they came, from each state of the first moment to one of the other, and
--- all plays where these are done. Where a stop at the first moment leaves only what opens to the file's map, and the
--- lines are transacted, stops leave what opens on the way, and what is told stays.
+-- all plays where these are done, and the lines tell the calls by which that was. Where a stop at the first moment
+-- leaves only what opens to the file's map, and the lines are transacted, stops leave what opens on the way, and what
+-- is told stays.
 pub record StopsTold (disk_tells output_tells : Bool) (old new : Scene) (plays : List Play) (answer : PlaysEnd) : Type 0 where
   pub lines : List Line
   pub whole : answer ≡ Ok (Ok tt) → IsTrue output_tells → new.written ≡ old.written ++ report_text lines
@@ -52,6 +57,7 @@ pub record StopsTold (disk_tells output_tells : Bool) (old new : Scene) (plays :
       → (after : State) × IsStateAt new after × Course (form_at old.over.world) state (law_plays plays) (law_lines lines) after
   pub left : IsTrue disk_tells → (state : State) → IsStateAt old state
       → UnlessBroken answer ((after : State) × IsStateAt new after × ComesTo (form_at old.over.world) state (law_plays plays) (law_lines lines) after)
+  pub calls : IsTrue disk_tells → (state : State) → IsStateAt old state → ToldCalls (moment_of old.over []) (moment_of new.over []) (run_answer answer) lines
   pub stops : IsTrue disk_tells → (state : State) → IsStateAt old state → IsSafe (form_at old.over.world) old.over.history → IsTransacted (form_at old.over.world) state (law_lines lines)
       → LeavesOnTheWay old new answer state lines
 
@@ -74,18 +80,21 @@ ComesToImage f start plays lines img = (new : State) × ComesTo f start (law_pla
 
 -- All plays in a world, with the lines of unfinished commands behind those of the plays: so it is of stops from each
 -- state of the world on. Where the plays are done, all of the lines were written, and no other line of a play. Where
--- the disk is sound the lines tell these plays as far as they came, to a state as whose file what is left is read.
-pub record StopsOver (w : Whole) (disk_tells output_tells : Bool) (plays : List Play) (done sound : Type 0) (old now : History) (before after : List ℕ) : Type 0 where
+-- the disk is sound the lines tell these plays as far as they came, to a state as whose file what is left is read. They
+-- tell the calls that were made, between two lengths of the file.
+pub record StopsOver (w : Whole) (disk_tells output_tells : Bool) (plays : List Play) (done sound : Type 0) (old now : History) (from to : ℕ) (before after : List ℕ) : Type 0 where
   pub lines : List Line
   pub printed : IsTrue output_tells → WroteOf lines before after
   pub whole : done → IsTrue output_tells → WroteWhole lines before after
   pub left : sound → IsTrue disk_tells → (state : State) → IsStateOf w old state → ComesToImage (form_at w) state plays lines (seen now)
+  pub calls : IsTrue disk_tells → (state : State) → IsStateOf w old state → CallsFrom w old now from to sound lines
   pub stops : IsTrue disk_tells → (state : State) → IsStateOf w old state → IsSafe (form_at w) old → IsTransacted (form_at w) state (law_lines lines)
       → OpensAndStays (form_at w) old now state (law_lines lines)
 
 -- Lines of a report, from a world just loaded over the image that the file was read as at first, were printed, or a
 -- front of them; and where the run is done, all of them, and behind them nothing but the lines of unfinished commands.
 -- Where the disk is sound they tell these plays as far as they came, to a state as whose file what is left is read.
+-- They tell the calls that were made on the file, of which each turn ends with Full exactly where there is no room.
 -- Where in no state that they pass an opener is in the middle of a change outside a transaction, and all of the file
 -- was on the medium at first, every stop since then leaves a file that opens to the map and the sequence number of a
 -- state that they pass, or of the transaction whose Commit was just shutting its gate; and what they tell stays. A file
@@ -98,6 +107,7 @@ pub record StopsOfTurns (f : Form) (options : Options) (plays : List Play) (old 
   pub printed : IsTrue told → WroteOf lines before after
   pub whole : done → IsTrue told → WroteWhole lines before after
   pub left : sound → ComesToImage f start plays lines (seen now)
+  pub calls : TellsCallsSince options old now sound lines
   pub stops : StopsSince f old now start (law_lines lines)
 
 -- So it is of a file that is opened for turns with these options.

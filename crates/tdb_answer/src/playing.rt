@@ -141,7 +141,7 @@ fn play_in<D: Disk, K: Sink, L: Logs>(
     ensures rises { world.old.faults ≤ world.new.faults }
     ensures quiet { UnlessBroken result (world.new.faults ≡ world.old.faults) }
     ensures rose { IsTrue D.tells → (state : State) → IsJustLoaded world.old.world world.old.history state → OnBroken result (Rose world.old.faults world.new.faults) }
-    ensures stops { StopsOver world.old.world D.tells K.tells plays.now (result ≡ Ok (Ok tt)) (Rose world.old.faults world.new.faults → ⊥) world.old.history world.new.history (K.written output.old) (K.written output.new) }
+    ensures stops { StopsOver world.old.world D.tells K.tells plays.now (result ≡ Ok (Ok tt)) (Rose world.old.faults world.new.faults → ⊥) world.old.history world.new.history world.old.size world.new.size (K.written output.old) (K.written output.new) }
     ensures cause { HasCause (K.faults output.old) (K.faults output.new) result }
 {
     match play_each(alloc, world, plays, output, logs)? {
@@ -175,6 +175,7 @@ pub(crate) fn play_all<D: Disk, K: Sink, L: Logs>(
         → StopsOfTurns (form_at world.world) (options_at world.world) plays.now world.history (D.history result.0) K.tells (result.1 ≡ Ok (Ok tt)) (Rose world.faults (D.faults result.0) → ⊥) (K.written output.old) (K.written output.new) }
     ensures cause { HasCause (K.faults output.old) (K.faults output.new) result.1 }
 {
+    world.stands();
     let played = play_in(alloc, &mut world, plays, output, logs);
     (world.close(), played)
 }

@@ -5,12 +5,12 @@ use Rattle.std.proofs.lemmas.Bool.{false≢true}
 use Rattle.std.proofs.lemmas.List.{append-nil}
 use Rattle.tdb_disk.specs.History.{History, seen}
 use Rattle.tdb_space.specs.Form.{form_of}
-use Rattle.tdb_world.specs.Courses.Hearing.{Heard, HeardUpTo}
+use Rattle.tdb_world.specs.Courses.Hearing.{HeardUpTo}
 use Rattle.tdb_log.specs.Logs.{Logged}
 use Rattle.tdb_log.specs.declared.log.LogRefusal.TheVariants as Unheard
 use Rattle.tdb_commands.specs.declared.line.Line.{Line}
 use Rattle.tdb_tool.proofs.Wholes.{begins, over_comes}
-use Rattle.tdb_tool.specs.Whole.{CameSo, StopsOpen}
+use Rattle.tdb_tool.specs.Whole.{CameSo, SaidSo, StopsOpen}
 use Rattle.tdb_tool.specs.declared.fault.SessionEnd.{SessionEnd}
 use Rattle.tdb_tool.specs.declared.fault.SessionEnd.TheVariants as End
 use Rattle.tdb_tool.specs.declared.fault.SessionFault.{SessionFault}
@@ -22,7 +22,7 @@ use Rattle.tdb_answer.specs.declared.ending.Unprinted.{Unprinted}
 use Rattle.tdb_open.specs.declared.halt.Halt.TheVariants as H
 use Rattle.tdb_open.specs.declared.halt.Refusal.{Refusal}
 use Rattle.tdb_answer.specs.Commands.Session.{session_options, of_end, IsServed, IsServedSoFar, IsServedBroken, SessionOn, SessionFile, file_unopened, session_ran, SessionHeld}
-use Rattle.tdb_tool.specs.Serving.{HeardOrRefused}
+use Rattle.tdb_tool.specs.Serving.{fault_of, HeardOrRefused, HeardSo}
 use Rattle.tdb_answer.specs.Ending.{status_of, text_of, PrintedFor, PrintsAll, CountedBy}
 use Rattle.tdb_answer.specs.Input.{Input}
 use Rattle.tdb_answer.specs.Looks.{ending_of}
@@ -47,27 +47,30 @@ module _ (limit : ℕ) (input : Input) (tells : Bool) (w0 w1 w2 : List ℕ) (f0 
   abbrev SoFar : (List Logged → List Line → List Logged → Type 0) → Type 0
   SoFar Hears = IsServedSoFar limit input Out old now logs later Hears
 
+  -- what is said of the lines of one that ended so
+  abbrev Said : (answer : Result SessionEnd SessionFault) → On answer → List Line → Type 0
+  Said answer on = SaidSo (form_of (seen on.opened)) (session_options limit) on.opened now on.mid later (fault_of answer)
+
   -- a session as far as it came
-  so_far : (answer : Result SessionEnd SessionFault) (on : On answer) (Hear : List Line → Type 0) (Hears : List Logged → List Line → List Logged → Type 0) → ((lines : List Line) → Hear lines → Hears on.mid lines later)
-      → CameSo (form_of (seen on.opened)) (session_options limit) (seen on.opened) (seen now) input.tells input.text tells w0 w1 (StopsOpen (form_of (seen on.opened)) on.opened now) Hear → More → SoFar Hears
-  so_far answer on Hear Hears softer came more = record {
+  so_far : (answer : Result SessionEnd SessionFault) (on : On answer) (Hears : List Logged → List Line → List Logged → Type 0) → ((lines : List Line) → HeardSo (fault_of answer) on.mid lines later → Hears on.mid lines later)
+      → CameSo (form_of (seen on.opened)) (session_options limit) (seen on.opened) (seen now) input.tells input.text tells w0 w1 (StopsOpen (form_of (seen on.opened)) on.opened now) (Said answer on) → More → SoFar Hears
+  so_far answer on Hears softer came more = record {
     opened = on.opened;
     is_opened = on.is_opened;
     mid = on.mid;
     opening = on.opening;
     told = w1;
-    came = so_since limit input old now tells w0 w1 logs later answer on Hear (λ lines. Hears on.mid lines later) softer came;
+    came = so_since limit input old now tells w0 w1 logs later answer on (Said answer on) (λ lines. Hears on.mid lines later) (λ lines said. softer lines said.0) came;
     rest = more;
   }
 
   whole_came : (end : SessionEnd) → On (Ok end) → More → SoFar HeardOrRefused
   whole_came end on more =
-      let Hear : List Line → Type 0 = λ lines. Heard on.mid lines later in
-      so_far (Ok end) on Hear HeardOrRefused (λ lines heard. inl heard) (
+      so_far (Ok end) on HeardOrRefused (λ lines heard. inl heard) (
         on.ran.0,
         λ heard. begins input.text on.ran.0 end (on.ran.1 heard),
         on.ran.2.new,
-        over_comes (form_of (seen on.opened)) (session_options limit) (seen on.opened) on.ran.0 (seen now) tells w0 w1 (StopsOpen (form_of (seen on.opened)) on.opened now) Hear on.ran.2,
+        over_comes (form_of (seen on.opened)) (session_options limit) (seen on.opened) on.ran.0 (seen now) tells w0 w1 (StopsOpen (form_of (seen on.opened)) on.opened now) (Said (Ok end) on) on.ran.2,
         on.ran.2.left,
       ) more
 
@@ -82,7 +85,7 @@ module _ (limit : ℕ) (input : Input) (tells : Bool) (w0 w1 w2 : List ℕ) (f0 
     asks = on.ran.1;
     told = w1;
     left = on.ran.2;
-    came = begun_since limit input old now tells w0 w1 logs later (Err F.Device) on (λ lines. HeardOrRefused on.mid lines later) (λ lines. HeardOrRefused on.mid lines later) (λ lines heard. heard) on.ran.0 on.ran.2 on.ran.3;
+    came = begun_since limit input old now tells w0 w1 logs later (Err F.Device) on (Said (Err F.Device) on) (λ lines. HeardOrRefused on.mid lines later) (λ lines said. said.0) on.ran.0 on.ran.2 on.ran.3;
     rest = more;
   }
 
@@ -258,16 +261,15 @@ module _ (limit : ℕ) (input : Input) (tells : Bool) (w0 w1 w2 : List ℕ) (f0 
         no_ten (inr (inl is)) ten = absurd (omega (arith, is, ten))
         no_ten (inr (inr is)) ten = absurd (omega (arith, is, ten))
     session_run _ (session_ran (Err F.Input) on) printed finishes counted out =
-        cut (so_far (Err F.Input) on (λ lines. Heard on.mid lines later) HeardOrRefused (λ lines heard. inl heard) on.ran (line_more InputFault finishes)) (unheard_exits before after status out)
+        cut (so_far (Err F.Input) on HeardOrRefused (λ lines heard. inl heard) on.ran (line_more InputFault finishes)) (unheard_exits before after status out)
     session_run _ (session_ran (Err F.Output) on) printed finishes counted out =
-        cut (so_far (Err F.Output) on (λ lines. HeardOrRefused on.mid lines later) HeardOrRefused (λ lines heard. heard) on.ran (λ told. ([], finishes.2 ∙ sym (append-nil w1)))) finishes.1
+        cut (so_far (Err F.Output) on HeardOrRefused (λ lines heard. heard) on.ran (λ told. ([], finishes.2 ∙ sym (append-nil w1)))) finishes.1
     session_run _ (session_ran (Err F.Device) on) printed finishes counted out = broke (inr (broken on (line_more DeviceFault finishes))) out counted
     session_run _ (session_ran (Err F.Log) on) printed finishes counted out =
         let more = line_more LogFault finishes in
-        let Hear : List Line → Type 0 = λ lines. HeardUpTo Unheard.Failed on.mid lines later in
-        logged (so_far (Err F.Log) on Hear HeardOrRefused (λ lines heard. inr (Unheard.Failed, heard)) on.ran more) (so_far (Err F.Log) on Hear (HeardUpTo Unheard.Failed) (λ lines heard. heard) on.ran more) out
+        logged (so_far (Err F.Log) on HeardOrRefused (λ lines heard. inr (Unheard.Failed, heard)) on.ran more) (so_far (Err F.Log) on (HeardUpTo Unheard.Failed) (λ lines heard. heard) on.ran more) out
     session_run _ (session_ran (Err F.Memory) on) printed finishes counted out =
-        midway (so_far (Err F.Memory) on (λ lines. HeardOrRefused on.mid lines later) HeardOrRefused (λ lines heard. heard) on.ran (line_more NoMemory finishes)) out
+        midway (so_far (Err F.Memory) on HeardOrRefused (λ lines heard. heard) on.ran (line_more NoMemory finishes)) out
 
 -- a session over what is held at the name of its file
 pub session_by : (limit : ℕ) (input : Input) (tells : Bool) (w0 w1 w2 : List ℕ) (f0 f1 f2 before after : ℕ) (e : Ending) (status : ℕ) (r : Result Ending Unprinted) → PrintedFor e (ending_of r) → Finishes r (output_by tells w1 w2 f1 f2) e status

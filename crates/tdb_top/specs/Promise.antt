@@ -17,7 +17,8 @@ use Rattle.tdb_answer.specs.Stops.{TurnsStopSafely}
 -- left as the status says.
 -- A stop at any moment of turns leaves a file that opens to a map that their report passes, while nothing is changed
 -- outside a transaction. Unless a call of the files failed, that report tells the plays of the script as far as they
--- came, and leads to the file that is left. Of a session the same is said of its replies.
+-- came, and leads to the file that is left. Each line of it that tells of a turn stands for one that ended with Full
+-- exactly where there was no room. Of a session the same is said of its replies.
 -- The last log is told what becomes of the files, up to a notice that it refuses.
 -- Whatever the files and the output tell: the usage comes exactly where the words ask for nothing, and each failed call
 -- is told.

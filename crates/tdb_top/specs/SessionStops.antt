@@ -8,6 +8,7 @@ use Rattle.tdb_cmdline.specs.declared.ask.Task.TheVariants.{Session}
 use Rattle.tdb_tool.specs.Asking.{BeginsBy}
 use Rattle.tdb_tool.specs.Whole.{SessionCame}
 use Rattle.tdb_tool.specs.declared.order.Order.{Order}
+use Rattle.tdb_answer.specs.Calls.{TellsCallsSince}
 use Rattle.tdb_answer.specs.Commands.Session.{session_options}
 use Rattle.tdb_open.specs.Loading.{OpensToTurn}
 use Rattle.tdb_answer.specs.Input.{Input}
@@ -17,8 +18,9 @@ use Rattle.tdb_answer.specs.Safe.{StopsSince, IsLeftAs}
 use Rattle.tdb_answer.specs.Stops.{WroteLine}
 
 -- The text of the input begins by asking for orders, and a session of them came so far, from a world just loaded over
--- the bytes that the file was read as at first; a front of its text was printed. Where the disk is sound, it came to a
--- state as whose file what is left is read. Where in no state that its lines pass an opener is in the middle of a
+-- the bytes that the file was read as at first; a front of its text was printed. Its lines tell the calls that were
+-- made on the file, of which each turn ends with Full exactly where there is no room. Where the disk is sound, it came
+-- to a state as whose file what is left is read. Where in no state that its lines pass an opener is in the middle of a
 -- change outside a transaction, and all of the file was on the medium at first, every stop since then leaves a file
 -- that opens to the map and the sequence number of a state that they pass, or of the transaction whose Commit was just
 -- shutting its gate; and what they tell stays. A file whose gate was open at first has to be one whose undo changes no
@@ -27,7 +29,7 @@ abbrev pub StopsOfSession : ℕ → Input → History → History → Bool → T
 StopsOfSession limit input old now told sound before after =
     (orders : List Order) × (IsTrue input.tells → BeginsBy input.text orders) × (new : State) × (sound → IsLeftAs (form_of (opened_bytes (seen old))) (seen now) new)
     × SessionCame (form_of (opened_bytes (seen old))) (session_options limit) (opened_bytes (seen old)) orders new told before after (StopsSince (form_of (opened_bytes (seen old))) old now)
-    (λ lines. Unit {0})
+    (TellsCallsSince (session_options limit) old now sound)
 
 -- So it is of a file that is opened for a session, however that ends.
 abbrev pub StopsServed : ℕ → Input → Option History → Option History → Bool → Type 0 → List ℕ → List ℕ → Type 0
