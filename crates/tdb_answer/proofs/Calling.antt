@@ -64,6 +64,7 @@ calls_over old new answer lines sound unbroken T = record {
   size = T.size;
   calls = T.calls;
   ends = λ so. (let L = unless_sound answer (unbroken so) (of_run answer _ T.last) in (sym L.1, sym L.2));
+  stopped = T.stopped;
 }
 
 -- what says less often that the disk is sound
@@ -74,7 +75,7 @@ calls_when f options old now sound less lines to T = record {
   options = T.options;
   state = T.state;
   just = T.just;
-  from = record { count = T.from.count; last = T.from.last; left = T.from.left; size = T.from.size; calls = T.from.calls; ends = λ so. T.from.ends (to so) };
+  from = record { count = T.from.count; last = T.from.last; left = T.from.left; size = T.from.size; calls = T.from.calls; ends = λ so. T.from.ends (to so); stopped = T.from.stopped };
 }
 
 pub since_when : (options : Options) (old now : History) (sound less : Type 0) (lines : List Line) → (less → sound) → TellsCallsSince options old now sound lines → TellsCallsSince options old now less lines

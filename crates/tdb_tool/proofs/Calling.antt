@@ -59,6 +59,7 @@ module _ (old new : Scene) where
     size = T.size;
     calls = T.calls;
     ends = λ sound. (let L = unless_whole answer sound (of_run answer _ T.last) in (sym L.1, sym L.2));
+    stopped = T.stopped;
   }
 
 -- nothing was done
