@@ -30,8 +30,8 @@ fn count_of(alloc: Global, text: &[u8]) -> Result<usize, ReadRefusal> {
     Ok(count)
 }
 
-/// Writes so many pairs, 1,000 unless a count is asked for, and reads them back. Where it is, it also prints how long each
-/// took.
+/// Writes so many pairs, 1,000 unless a count is asked for, and reads them back. Where it is, it also prints how long
+/// each took.
 pub(crate) fn measure(rt: HostRuntime, asked: Option<u32>) -> anyhow::Result<()> {
     let start = Instant::now(&rt)?;
     let text = text_of(rt.alloc(), asked.unwrap_or(1000) as u64)?;

@@ -1,6 +1,6 @@
-//! Measures what crates of tdb do: hashes, locks, dump text, a commit, and commands of openers. The first argument names
-//! one of these, and the second is how much is done; then the times are printed too. Without an argument each is done in
-//! short.
+//! Measures what crates of tdb do: hashes, locks, dump text, a commit, and commands of openers. The first argument
+//! names one of these, and the second is how much is done; then the times are printed too. Without an argument each is
+//! done in short.
 #![tactic(auto)]
 
 mod commits;

@@ -61,8 +61,8 @@ impl InPlace {
         (!is_free).then_some(self.before.as_str())
     }
 
-    /// Removes what a run that was killed left at the name that the new file has at first. Where that can't be done, the
-    /// mending finds that the name is taken.
+    /// Removes what a run that was killed left at the name that the new file has at first. Where that can't be done,
+    /// the mending finds that the name is taken.
     pub(crate) fn clear(&self, rt: HostRuntime) {
         let _ = DirFiles::new(rt).remove(self.new.as_str());
     }

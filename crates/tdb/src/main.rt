@@ -117,8 +117,8 @@ fn is_typed(rt: &HostRuntime, words: &[String]) -> bool {
     words.first().is_some_and(|word| word.as_str() == "tool") && rt.stdin().is_terminal()
 }
 
-/// The status, or where a new file didn't get its name, of which nothing was printed then, that of a failed device, which
-/// is printed, and on standard error why.
+/// The status, or where a new file didn't get its name, of which nothing was printed then, that of a failed device,
+/// which is printed, and on standard error why.
 fn check_named(rt: &HostRuntime, status: Status, files: &DirFiles) -> Status {
     let Some(fault) = files.last_unnamed() else {
         return status;
@@ -154,8 +154,8 @@ fn quiet(manner: Manner) -> Manner {
     }
 }
 
-/// Ends a run over these files that ended so: a new file takes the place of the one that is to be mended, and a person is
-/// told what can be done with one that was refused.
+/// Ends a run over these files that ended so: a new file takes the place of the one that is to be mended, and a person
+/// is told what can be done with one that was refused.
 fn finish(
     rt: &HostRuntime,
     status: Status,

@@ -1301,8 +1301,8 @@ module _ (before after status : ℕ) where
     merge_run : (t : Ending) → Exits status t → MergeLeaves limit prefix file into held old t now → MergeRun limit prefix file into held old status now
     merge_run t out left = record { ending = t; exits = exits_so t out; left = left; done = λ is. merged_done t left out is }
 
-  -- it is as it was, or undone, where the status says neither that they were stored, nor that there was no room for them,
-  -- nor of a fault, nor of want of memory
+  -- it is as it was, or undone, where the status says neither that they were stored, nor that there was no room for
+  -- them, nor of a fault, nor of want of memory
   module _ (keeps : KeepsAll status) (five : status ≡ 5 → ⊥) (six : status ≡ 6 → ⊥) where
     merge_ended : (answer : Result (Unit {0}) MergeFault) → Exits status (merge_told answer) → ⊥
     merge_ended (Ok v) (inl own) = keeps.0 own
@@ -1366,8 +1366,8 @@ module _ (before after status : ℕ) where
     move_run : (t : Ending) → Exits status t → MoveLeaves limit key file into held now_held old now t → MoveRun limit key file into held now_held old now status
     move_run t out left = record { ending = t; exits = exits_so t out; left = left; done = λ is. moved_done t left out is }
 
-  -- each is as it was, or undone, where the status says neither that it was moved, nor that the key isn't there, nor that
-  -- there was no room for it, nor of a fault, nor of want of memory
+  -- each is as it was, or undone, where the status says neither that it was moved, nor that the key isn't there, nor
+  -- that there was no room for it, nor of a fault, nor of want of memory
   module _ (keeps : KeepsAll status) (one : status ≡ 1 → ⊥) (five : status ≡ 5 → ⊥) (six : status ≡ 6 → ⊥) (limit : ℕ) (key file into : List ℕ) (held now_held old now : Option History) where
     move_ended : (answer : Result (Unit {0}) MoveFault) → Exits status (move_told answer) → ⊥
     move_ended (Ok v) (inl own) = keeps.0 own

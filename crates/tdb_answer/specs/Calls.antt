@@ -9,7 +9,8 @@ use Rattle.tdb_tool.specs.Calls.{TellsCalls}
 
 -- There are no lines; or the file was opened, as the bytes that it was read as at first, and the lines tell the calls
 -- that were made on it since: each line that tells of a turn stands for one that ended with Full exactly where there
--- was no room. The last call left the file as it is now, but for what the call may have changed at which the disk failed.
+-- was no room. The last call left the file as it is now, but for what the call may have changed at which the disk
+-- failed.
 abbrev pub TellsCallsSince : Options → History → History → Type 0 → List Line → Type 0
 TellsCallsSince options old now sound lines =
     (lines ≡ []) ⊎ ((opened : History) × (seen opened ≡ opened_bytes (seen old)) × TellsCalls (form_of (seen opened)) options opened now sound lines)

@@ -143,10 +143,10 @@ MakingDue file e =
 -- How a task on the file of this name ends, by what is held there, where no call failed and memory sufficed. An act, a
 -- look, a rescue and a printing are on a file that is there; a file is made where none is. How a restore ends where no
 -- file is depends on its input, as turns and a session do, how a backup and a verification end on all their files
--- (`BackupEnds`, `VerifyEnds`), as the move of a key does on both (`MoveSo`), and how generated commands end on how they
--- were done (`GenSo`), so none is due to what is held at one name. Where a file that is written anew isn't refused, it depends on where its records come to lie
--- (`RepackEnds`), as where another file is made of its pairs, or they are stored into one, and on what stands at the
--- name of that (`ConvertEnds`, `MendEnds`, `MergeEnds`).
+-- (`BackupEnds`, `VerifyEnds`), as the move of a key does on both (`MoveSo`), and how generated commands end on how
+-- they were done (`GenSo`), so none is due to what is held at one name. Where a file that is written anew isn't
+-- refused, it depends on where its records come to lie (`RepackEnds`), as where another file is made of its pairs, or
+-- they are stored into one, and on what stands at the name of that (`ConvertEnds`, `MendEnds`, `MergeEnds`).
 abbrev pub TaskDue : Task → List ℕ → Option History → Ending → Type 0
 TaskDue (On act) name None e = e ≡ Missing name
 TaskDue (On act) name (Some h) e = Replies act (seen h) e ⊎ Refuses act.limit (seen h) e

@@ -92,8 +92,8 @@ abbrev pub MergeHeard : ℕ → Option History → Ending → List Logged → Li
 MergeHeard limit None e old new = NothingHeard e old new
 MergeHeard limit (Some h) e old new = FileHeard (seen h) (ReadingBelowHeard limit (seen h)) e (λ mid later. Unit {0}) old new
 
--- and where it was opened as for a session, and a key of it is moved into another one: nothing is said of what they heard
--- of that
+-- and where it was opened as for a session, and a key of it is moved into another one: nothing is said of what they
+-- heard of that
 abbrev pub MoveHeard : ℕ → Option History → Ending → List Logged → List Logged → Type 0
 MoveHeard limit None e old new = NothingHeard e old new
 MoveHeard limit (Some h) e old new = FileHeard (opened_bytes (seen h)) (BelowHeard limit (seen h)) e (λ mid later. Unit {0}) old new

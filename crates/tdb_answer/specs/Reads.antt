@@ -123,8 +123,8 @@ pub record EndsByMending (task : Task) (name : List ℕ) (held : List ℕ → Op
   pub there : held name ≡ Some was
   pub ends : MendEnds (seen was) new (held new) e
 
--- the task stores the pairs of the file that is at its name into another one, and ends so by what is held at the name of
--- that
+-- the task stores the pairs of the file that is at its name into another one, and ends so by what is held at the name
+-- of that
 pub record EndsByMerge (task : Task) (name : List ℕ) (held : List ℕ → Option History) (e : Ending) : Type 0 where
   pub into : List ℕ
   pub prefix : List ℕ

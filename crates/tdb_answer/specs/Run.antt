@@ -179,8 +179,9 @@ pub record RefusesExactly (run : Run) : Type 0 where
 abbrev pub KeepsAll : ℕ → Type 0
 KeepsAll status = (status ≢ 0) × (status ≢ 4) × (status ≢ 8) × (status ≢ 10)
 
--- a task may end with this status when some of its plays were taken: memory may be wanting, or room, a line of a session
--- may be none, and a key that is to be moved not there; or when an empty file was made in place of one that would be too long
+-- a task may end with this status when some of its plays were taken: memory may be wanting, or room, a line of a
+-- session may be none, and a key that is to be moved not there; or when an empty file was made in place of one that
+-- would be too long
 abbrev pub EndsMidway : Task → ℕ → Type 0
 EndsMidway (Turns options) status = status ≡ 5
 EndsMidway (Session limit) status = (status ≡ 5) ⊎ (status ≡ 7)
@@ -286,7 +287,8 @@ pub record SessionRun (limit : ℕ) (input : Input) (output : Output) (old : His
   pub halted : KeepsAll status → status ≢ 5 → status ≢ 7 → HaltHeard limit (seen old) logs later
 
 -- What a run leaves at the name of a file that is to be made of the pairs of another one. What stood there stays. Where
--- the status is neither 0 nor 4 no file is left that wasn't there, unless a call of the files failed and then the output.
+-- the status is neither 0 nor 4 no file is left that wasn't there, unless a call of the files failed and then the
+-- output.
 pub record ConvertRun (made : NewFile) (prefix : List ℕ) (held old : Option History) (before after status : ℕ) (now : Option History) : Type 0 where
   pub done : status ≡ 0 → WasConverted made prefix held old now
   pub there : IsSome old → now ≡ old
@@ -300,7 +302,8 @@ pub record MendRun (held old : Option History) (before after status : ℕ) (now 
   pub there : IsSome old → now ≡ old
   pub kept : status ≢ 0 → status ≢ 4 → (now ≡ old) ⊎ ((status ≡ 8) × Rose before after)
 
--- The pairs of one file with this prefix were merged into another, and a stop from then on leaves only what opens to that.
+-- The pairs of one file with this prefix were merged into another, and a stop from then on leaves only what opens to
+-- that.
 pub record WasMerged (limit : ℕ) (prefix : List ℕ) (held old now : Option History) : Type 0 where
   pub was : History
   pub there : held ≡ Some was
@@ -348,8 +351,8 @@ pub record GeneratingRun (commands seed : ℕ) (output : Output) (old : Option H
   pub failed : status ≡ 4 → Rose before after
   pub kept : status ≢ 0 → status ≢ 4 → (now ≡ old) ⊎ ((status ≡ 8) × (Rose before after ⊎ ((s : Summary) × HasMade commands seed s old now)))
 
--- a name is one for a copy, where a backup is asked for, or one at which a file is restored, where a verification is, or
--- the one at which a file is made, where it is to be written anew, or that of a file that is mended, which is synced
+-- a name is one for a copy, where a backup is asked for, or one at which a file is restored, where a verification is,
+-- or the one at which a file is made, where it is to be written anew, or that of a file that is mended, which is synced
 abbrev pub IsCopyName : Option Ask → List ℕ → Type 0
 IsCopyName ask name =
     ((more : List (List ℕ)) × (suffix : List ℕ) × (file : List ℕ)

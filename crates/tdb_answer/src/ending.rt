@@ -143,8 +143,8 @@ pub enum Unprinted {
     #[error("a fault isn't told")]
     Fault,
 
-    /// How many keys the files have that are still to be verified: that isn't known yet. Or that a new file is made of the
-    /// pairs of another one: it is removed again.
+    /// How many keys the files have that are still to be verified: that isn't known yet. Or that a new file is made of
+    /// the pairs of another one: it is removed again.
     #[error("files aren't told")]
     Files,
 }

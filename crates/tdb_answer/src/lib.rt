@@ -1,4 +1,5 @@
-//! What a command line asks for is done over a set of files, an input and an output, and the line of its ending printed.
+//! What a command line asks for is done over a set of files, an input and an output, and the line of its ending
+//! printed.
 #![tactic(auto)]
 
 mod act;

@@ -70,8 +70,8 @@ area_word f a b F = word_agrees f.order b a area_head (λ i from to. F.low i (om
 no_area : (f : Form) (a : List ℕ) → word f.order a area_head ≡ 0 → area f.order a ≡ []
 no_area f a none = rw (eq-eqb (word f.order a area_head) 0 none) refl
 
--- how often a byte is held by the free list and a hand that was taken: as often as by the old list, and by what the file
--- grew by
+-- how often a byte is held by the free list and a hand that was taken: as often as by the old list, and by what the
+-- file grew by
 record Shared (f : Form) (a b : List ℕ) (h : HandPair) (i : ℕ) : Type 0 where
   more : ℕ
   count : times (extents f.order b (free_of f b)) i + once (h.0, 24 + h.1) i ≡ times (extents f.order a (free_of f a)) i + more

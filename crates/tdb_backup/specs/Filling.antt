@@ -31,8 +31,8 @@ abbrev pub AllUsed : Order → List ℕ → List ℕ → Type 0
 AllUsed o img [] = Unit {0}
 AllUsed o img (x ∷ xs) = (magic_of o img x ≡ USED) × AllUsed o img xs
 
--- no byte from the data start on is lost: each is held just once, by a record of a chain or of the free list, by the undo
--- area or by one of these hands
+-- no byte from the data start on is lost: each is held just once, by a record of a chain or of the free list, by the
+-- undo area or by one of these hands
 abbrev pub HoldsEach : Form → List ℕ → List HandPair → Type 0
 HoldsEach f img hands = (i : ℕ) → data_start f ≤ i → i < length img → times (all_extents f img (chain_of f img) (free_of f img) hands) i ≡ 1
 
@@ -50,8 +50,8 @@ pub record PutFirst (f : Form) (a b key value : List ℕ) : Type 0 where
 abbrev pub KeepsHeader : List ℕ → List ℕ → Type 0
 KeepsHeader a b = (i : ℕ) → i < 168 → slice_index b i ≡ slice_index a i
 
--- From image a to image b a record of so many bytes behind its header was added: what is left of the room is what a take
--- leaves within the limit, and the header stays.
+-- From image a to image b a record of so many bytes behind its header was added: what is left of the room is what a
+-- take leaves within the limit, and the header stays.
 pub record Filled (f : Form) (a b : List ℕ) (rec_len limit : ℕ) : Type 0 where
   pub room : room_left limit (room_in f a) rec_len ≡ Some (room_in f b)
   pub header : KeepsHeader a b

@@ -39,8 +39,8 @@ AddHeard from to old new (Ok v) = ToldAll (growth from to) old new
 AddHeard from to old new (Err (Add.Insert e)) = new ≡ old
 AddHeard from to old new (Err (Add.Log refusal)) = ToldUpTo refusal (growth from to) old new
 
--- What logs heard where not all of these pairs were added: the growths up to some pair; where there was no room for one,
--- all that there are; and where the last log refused one, those before it.
+-- What logs heard where not all of these pairs were added: the growths up to some pair; where there was no room for
+-- one, all that there are; and where the last log refused one, those before it.
 abbrev pub CopyHeard : ℕ → Form → List ℕ → List (List ℕ × List ℕ) → List Logged → List Logged → BackupRefusal → Type 0
 CopyHeard limit f first order old new (Backup.Copy (Copy.Full len need)) = ToldAll (growths_of limit f first order) old new
 CopyHeard limit f first order old new (Backup.Copy Copy.Read) = ToldFront limit f first order old new

@@ -36,8 +36,8 @@ fn hand_on<K: Sink>(out: &mut K, text: &mut Vec<u8>, least: usize) -> Result<(),
     Ok(())
 }
 
-/// Lists the next pair of a walk, if there is one: puts its text behind what is held, and writes that where it has 64 KiB
-/// at least. So between two pairs fewer than 64 KiB are held.
+/// Lists the next pair of a walk, if there is one: puts its text behind what is held, and writes that where it has 64
+/// KiB at least. So between two pairs fewer than 64 KiB are held.
 ///
 /// Where it is refused, some of what was held is written, from its beginning on.
 pub fn list_next<S: Space, K: Sink>(

@@ -142,8 +142,8 @@ impl Held {
     }
 }
 
-/// Fills the room up to `end` with the bytes from an offset on, of which it has the first `held`: reads what is missing.
-/// The room gets longer where it's too short.
+/// Fills the room up to `end` with the bytes from an offset on, of which it has the first `held`: reads what is
+/// missing. The room gets longer where it's too short.
 fn read_up_to<S: Space>(
     s: &mut S,
     at: u64,

@@ -16,9 +16,9 @@ const MOST_PENDING: usize = 32;
 /// So many writes beside the blocks are passed on before all blocks go out for others.
 const MOST_MISSES: u32 = 256;
 
-/// The blocks of a file to which was written, and which the file lacks: 32 at most. A block is read whole when a byte of
-/// it is first written. Where 32 are pending a write beside them is passed on, and the 256th first writes them all, so
-/// that others take their places.
+/// The blocks of a file to which was written, and which the file lacks: 32 at most. A block is read whole when a byte
+/// of it is first written. Where 32 are pending a write beside them is passed on, and the 256th first writes them all,
+/// so that others take their places.
 #[derive(Drop)]
 pub struct Pending {
     blocks: Blocks,

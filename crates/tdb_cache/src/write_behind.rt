@@ -17,8 +17,8 @@ use tdb_disk::{Disk, DiskFault};
 
 /// A disk that is written behind, as a new file is. Its content is kept in memory while it is short, up to 1 MiB: a
 /// write costs a copy of its bytes, and reaches the disk within at the next sync, which writes all by one call. Past
-/// that blocks of 64 KiB are gathered, 32 at most, and reach it at the next sync, growth or cut, or when others take their
-/// places. Where nothing is kept each call is passed on.
+/// that blocks of 64 KiB are gathered, 32 at most, and reach it at the next sync, growth or cut, or when others take
+/// their places. Where nothing is kept each call is passed on.
 ///
 /// The length is that of the disk within at any time: a growth and a cut are passed on at once. Between two syncs a
 /// stop leaves what the disk within has, which is less than what a read gives, so no history is told.
@@ -73,9 +73,9 @@ impl<D: Disk> WriteBehind<D> {
         &self.inner
     }
 
-    /// Writes to the disk within what it lacks: of a content by one call the stretch from the first to the last byte that
-    /// was written since the last flush, and each block that is gathered by a call. After an Err nothing is lost, and the
-    /// next flush writes it.
+    /// Writes to the disk within what it lacks: of a content by one call the stretch from the first to the last byte
+    /// that was written since the last flush, and each block that is gathered by a call. After an Err nothing is lost,
+    /// and the next flush writes it.
     pub fn flush(&mut self) -> Result<(), DiskFault>
         ensures view { IsTrue D.tells → behind_view self.new ≡ behind_view self.old }
         ensures shown { OnOk result (IsTrue D.tells → seen (D.history (behind_inner self.new)) ≡ behind_view self.old) }

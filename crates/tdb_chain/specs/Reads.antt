@@ -38,7 +38,7 @@ way_reads f img key offs = sum_by (test_reads f img key) (up_to_key f img key of
 abbrev pub find_reads : Form → List ℕ → List ℕ → ℕ
 find_reads f img key = 4 + way_reads f img key (chain_of f img (home f key))
 
--- Of so many writes of so many bytes in all. A view that keeps pages may read two pages, 8192 bytes in all, to fill those
--- that a write touches in part.
+-- Of so many writes of so many bytes in all. A view that keeps pages may read two pages, 8192 bytes in all, to fill
+-- those that a write touches in part.
 abbrev pub write_reads : ℕ → ℕ → ℕ
 write_reads writes bytes = bytes + 8192 * writes

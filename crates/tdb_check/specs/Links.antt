@@ -32,8 +32,8 @@ AllTold kinds f img ls = (i : ℕ) (d : Link) → i < length ls.links.items → 
 abbrev pub weight_left : (ℕ → ℕ) → Link → ℕ
 weight_left w l = if l.list == NO_LIST then 0 else w l.at
 
--- What all records weigh that weren't taken out. That a record is in one list, once, is said by such sums: whatever each
--- weighs, the lists weigh as much as the records.
+-- What all records weigh that weren't taken out. That a record is in one list, once, is said by such sums: whatever
+-- each weighs, the lists weigh as much as the records.
 abbrev pub left : (ℕ → ℕ) → Links → ℕ
 left w ls = sum_by (weight_left w) ls.links.items
 

@@ -36,9 +36,9 @@ use tdb_space::Space;
 /// It takes time n log n in the number n of records. In a walk a record costs one read where its header, key and tailer
 /// stand within 128 bytes; bytes that belong to no record are read in blocks of 65,536. Keys are read again only where
 /// two of a chain, or in the first pass two of the file, have one Jenkins hash, whatever the file's own hash is. The
-/// first pass keeps 12 bytes a record, 12 more a used one, 4 for each 1,024 bytes of the file, and at its end 4 a chain,
-/// and forgets them before a walk. That keeps 8 bytes a record, and somewhat more for each record of the list that it
-/// follows, whatever its keys are. It changes nothing.
+/// first pass keeps 12 bytes a record, 12 more a used one, 4 for each 1,024 bytes of the file, and at its end 4 a
+/// chain, and forgets them before a walk. That keeps 8 bytes a record, and somewhat more for each record of the list
+/// that it follows, whatever its keys are. It changes nothing.
 ///
 /// Of a file that it accepts it reads at most 15 times its length from the front; and in a walk 200 bytes, 4 a chain,
 /// 132 a record, each used key 16 times, the length of the file once, and both keys of each two of one chain that have

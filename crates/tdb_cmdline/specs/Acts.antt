@@ -38,8 +38,8 @@ storehex_of arguments = option_map (λ pair. Store pair.0 pair.1) (pair_of HexPa
 abbrev pub delete_of : List (List ℕ) → Option Verb
 delete_of arguments = of_one (λ word. option_map Delete (value_of word)) arguments
 
--- `erase`, `check`, `first`, `next`, `transaction_start`, `transaction_commit`, `transaction_cancel` and `quit`, without
--- arguments: the verb that the word asks for
+-- `erase`, `check`, `first`, `next`, `transaction_start`, `transaction_commit`, `transaction_cancel` and `quit`,
+-- without arguments: the verb that the word asks for
 abbrev pub alone_of : Verb → List (List ℕ) → Option Verb
 alone_of verb [] = Some verb
 alone_of verb (word ∷ rest) = None

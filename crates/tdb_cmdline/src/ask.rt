@@ -73,16 +73,16 @@ pub enum Task {
         new: Text,
     },
 
-    /// To store the pairs of it whose key begins with `prefix` into a file that is there, which has another name. Each of
-    /// the two may have `limit` bytes, before and after.
+    /// To store the pairs of it whose key begins with `prefix` into a file that is there, which has another name. Each
+    /// of the two may have `limit` bytes, before and after.
     Merge {
         into: Text,
         prefix: Bytes,
         limit: u64,
     },
 
-    /// To take a key out of it and store it with its value into a file that is there, which has another name. Each of the
-    /// two may have `limit` bytes, before and after.
+    /// To take a key out of it and store it with its value into a file that is there, which has another name. Each of
+    /// the two may have `limit` bytes, before and after.
     Move {
         key: Bytes,
         into: Text,

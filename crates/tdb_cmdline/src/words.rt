@@ -55,8 +55,8 @@ pub(crate) fn value_of(alloc: Global, word: &str) -> Result<Option<Bytes>, Alloc
     bytes_of(alloc, word.as_bytes())
 }
 
-/// The key or the value that a word of pairs of hexadecimal digits stands for, where it is one. It is no longer than the
-/// word.
+/// The key or the value that a word of pairs of hexadecimal digits stands for, where it is one. It is no longer than
+/// the word.
 pub(crate) fn hex_value_of(alloc: Global, word: &str) -> Result<Option<Bytes>, AllocError>
     ensures read { IfOk result (λ bytes. bytes ≡ W.hex_value_of word.now) }
     ensures short { IfOk result (λ bytes. IfSome bytes (λ b. length b ≤ longest)) }

@@ -63,8 +63,8 @@ pub trait Files {
     /// How many calls have failed, and how many disks with faults were given back.
     ghost faults: { Self → ℕ };
 
-    /// Whether a name may be taken in a way. A set of files lets each be taken in any; a function that takes files asks in
-    /// its `requires` for those ways alone in which it takes them, and so tells them.
+    /// Whether a name may be taken in a way. A set of files lets each be taken in any; a function that takes files asks
+    /// in its `requires` for those ways alone in which it takes them, and so tells them.
     ghost may_take: { List ℕ → Take → Type 0 };
 
     /// Takes a file out of the set, as a disk that has no faults yet, and makes the room that giving it back needs.

@@ -15,9 +15,9 @@ SameMap f a b = (k : List ℕ) → map_of f b k ≡ map_of f a k
 abbrev pub MapSet : Form → List ℕ → List ℕ → List ℕ → Option (List ℕ) → Type 0
 MapSet f a b key value = (k : List ℕ) → map_of f b k ≡ update same_key (map_of f a) key value k
 
--- A change of a key, done or broken off, leaves all but the key's own chain: image b isn't shorter than image a, and each
--- byte of the header stays but for the sequence number, of the undo area and of every other chain. So at most the key's
--- chain changed, the free list, their heads, and bytes that no record holds.
+-- A change of a key, done or broken off, leaves all but the key's own chain: image b isn't shorter than image a, and
+-- each byte of the header stays but for the sequence number, of the undo area and of every other chain. So at most the
+-- key's chain changed, the free list, their heads, and bytes that no record holds.
 abbrev pub OnlyKeyChanges : Form → List ℕ → List ℕ → List ℕ → Type 0
 OnlyKeyChanges f a b key = ChangesOnly f a b (λ k. k ≡ home f key)
 

@@ -290,7 +290,8 @@ impl DirFiles {
         Ok(())
     }
 
-    /// The names under which refused files stay that were replaced, in the order in which they were. They are told once.
+    /// The names under which refused files stay that were replaced, in the order in which they were. They are told
+    /// once.
     pub fn take_kept(&mut self) -> Vec<String>
         ensures { self.new ≡ record self.old { kept = self.new.kept } }
     {

@@ -212,9 +212,9 @@ fn free_name(rt: &HostRuntime, name: &str, manner: Manner, is_anew: bool) -> Res
     Err(Refusal::Failed(Reason::InUse))
 }
 
-/// Makes a new file under the name that it has until it is whole, and locks it, where its own name is free. No other run
-/// can give that name to a file of its own then, so it is looked at once more. None where another run makes the same
-/// file: that one was waited for.
+/// Makes a new file under the name that it has until it is whole, and locks it, where its own name is free. No other
+/// run can give that name to a file of its own then, so it is looked at once more. None where another run makes the
+/// same file: that one was waited for.
 fn try_make_part(
     rt: &HostRuntime,
     part: &Part,

@@ -81,8 +81,8 @@ fn find_opener(rt: &HostRuntime, file: Identity, runs: &Runs<'_>) -> io::Result<
     Ok(None)
 }
 
-/// Another program that has a lock on a part of the file. Costs a read of the system's table of locks, which anybody may
-/// read.
+/// Another program that has a lock on a part of the file. Costs a read of the system's table of locks, which anybody
+/// may read.
 pub(crate) fn find_part_locker(rt: &HostRuntime, file: Identity) -> Option<Holder> {
     let own = process::id(rt.process());
     let table = fs::read_to_string(rt, LOCK_TABLE).ok()?;
@@ -92,8 +92,8 @@ pub(crate) fn find_part_locker(rt: &HostRuntime, file: Identity) -> Option<Holde
 
 /// Another program that has the file open, and isn't a run of this one. The open files of all processes are looked
 /// through whose files this user may see; of root's run these are all. A program in another container or on another
-/// machine isn't seen. Costs a read of the table, a call of the system for each process, and one more for each file that
-/// is open in those.
+/// machine isn't seen. Costs a read of the table, a call of the system for each process, and one more for each file
+/// that is open in those.
 pub(crate) fn find_open(rt: &HostRuntime, file: Identity) -> Option<Holder> {
     let own = process::id(rt.process());
     let table = fs::read_to_string(rt, LOCK_TABLE).unwrap_or(String::new(rt.alloc()));

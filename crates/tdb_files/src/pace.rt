@@ -59,8 +59,8 @@ impl Pace {
         is_paused
     }
 
-    /// A change has ended; tells whether it is to be noted: it is one of the first after a pause, took long, or the last
-    /// that was noted is long ago. Costs a reading of the clock, but for the first.
+    /// A change has ended; tells whether it is to be noted: it is one of the first after a pause, took long, or the
+    /// last that was noted is long ago. Costs a reading of the clock, but for the first.
     pub(crate) fn end(&mut self, clock: &impl Clock) -> bool {
         self.changes = self.changes.saturating_add(1);
         self.changes <= EACH_NOTED || now(clock) >= self.note_due

@@ -147,10 +147,10 @@ fn keep_refused(rt: &HostRuntime, name: &str, cause: Cause) -> io::Result<String
 
 /// Gives the file at `from` the name `to`. A regular file that is replaced passes its permissions, its group and its
 /// owner on, as far as the system allows it, and one that is to be kept, which may have been refused for this cause,
-/// stays under another name. Where `to` is a link, that is replaced or kept, and the file to which it leads stays as it is. The
-/// folder of the new name is synced then, so that the name is on the medium; a folder that may not be opened, or whose
-/// file system can't sync it, is left to the system. Where nothing is at `from`, nothing is done. The name under which a
-/// refused file stays, where one was replaced.
+/// stays under another name. Where `to` is a link, that is replaced or kept, and the file to which it leads stays as it
+/// is. The folder of the new name is synced then, so that the name is on the medium; a folder that may not be opened,
+/// or whose file system can't sync it, is left to the system. Where nothing is at `from`, nothing is done. The name
+/// under which a refused file stays, where one was replaced.
 pub(crate) fn replace(
     rt: &HostRuntime,
     from: &str,

@@ -12,8 +12,8 @@ use Rattle.tdb_free.specs.Walk.{IsLed, IsUpTo, LinkWithin, known_at}
 use Rattle.tdb_free.specs.declared.walk.Link.{Link}
 use Rattle.tdb_free.proofs.Passed.{Passed, passed_start, passed_end, passed_more, passed_all}
 
--- So many records of the list were passed, and the word at `before` leads on from `at`: the record that is sought wasn't
--- met yet, or this is the link to it.
+-- So many records of the list were passed, and the word at `before` leads on from `at`: the record that is sought
+-- wasn't met yet, or this is the link to it.
 abbrev pub Seen : Form → List ℕ → List ℕ → Option ℕ → Option Link → ℕ → ℕ → ℕ → Type 0
 Seen f img offs None known turns before at = known ≡ None
 Seen f img offs (Some off) None turns before at = Passed f img offs (starts_at off) turns before at

@@ -90,8 +90,8 @@ fn give_stretch<S: Space>(s: &mut S, len: u64, free: Stretch) -> Result<(), Spac
 /// record, it goes along the list once, up to the last that does, or to the end where one of them isn't in the list: it
 /// reads the head of the list, 4 bytes of each record in front of that one, and 24 bytes of each that is found. It
 /// writes four words at most besides the new record's header: its tailer, the head of the list, and the words that led
-/// to the two neighbours. It answers `Io` where the disk failed. Where the file doesn't hold the hand, or is longer than
-/// the words of a file can say, nothing is written.
+/// to the two neighbours. It answers `Io` where the disk failed. Where the file doesn't hold the hand, or is longer
+/// than the words of a file can say, nothing is written.
 pub fn give<S: Space>(s: &mut S, h: Hand) -> Result<(), FreeRefusal>
     requires room { RoomForAll (S.spare s.old) 5 40 }
     ensures given { OnOk result (IsTrue S.tells → (offs : List ℕ) → CanBeGiven (S.form s.old) (S.image s.old) offs h

@@ -22,8 +22,8 @@ UnlessFailed (Err (Io at)) p = Unit {0}
 UnlessFailed (Err (LogFailed at)) p = p
 UnlessFailed (Err (Memory at)) p = p
 
--- A file went on in a call of a group. Its count of faults never falls; and unless a disk failed the count is as it was,
--- and the world keeps its form.
+-- A file went on in a call of a group. Its count of faults never falls; and unless a disk failed the count is as it
+-- was, and the world keeps its form.
 pub record WentOn {V : Type 0} (answer : Result V GroupStop) (old new : OverFile) : Type 0 where
   pub rises : old.faults ≤ new.faults
   pub quiet : UnlessFailed answer (new.faults ≡ old.faults)

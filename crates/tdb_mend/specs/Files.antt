@@ -4,8 +4,8 @@ use Rattle.tdb_space.specs.FirstFault.{Fault, front_fault}
 use Rattle.tdb_mend.specs.Mutexes.{database_in, without_mutexes}
 use Rattle.tdb_mend.specs.Mended.{mended, bytes_mended, CanBeMended, IsMendFault}
 
--- The image with which a file is looked at, by its header: its database, whose header doesn't count as one that tells of
--- mutexes
+-- The image with which a file is looked at, by its header: its database, whose header doesn't count as one that tells
+-- of mutexes
 abbrev pub looked_at : List ℕ → List ℕ
 looked_at file = without_mutexes (database_in file)
 

@@ -7,8 +7,8 @@ ghost use Rattle.tdb_txn.specs.Txn.{txn_size, txn_start};
 use tdb_txn::Txn;
 use tdb_words::Header;
 
-/// What a damaged file is read as: pages over the file, in memory, where its database begins and where it ends. The file
-/// itself isn't held.
+/// What a damaged file is read as: pages over the file, in memory, where its database begins and where it ends. The
+/// file itself isn't held.
 #[derive(Drop)]
 pub struct MendedFile {
     /// The pages.

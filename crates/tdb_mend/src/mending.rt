@@ -28,8 +28,8 @@ use tdb_disk::Disk;
 use tdb_txn::Txn;
 use tdb_words::{Header, What, header_of};
 
-/// Makes a file what its database is read as, before its stray bytes are looked at, and answers how many bytes of it are
-/// left (`undo_in`).
+/// Makes a file what its database is read as, before its stray bytes are looked at, and answers how many bytes of it
+/// are left (`undo_in`).
 fn undo_file<D: Disk>(file: &mut MendedFile, d: &mut D) -> Result<u64, CheckRefusal>
     requires sized { D.size d.old ≡ file_length file.old }
     requires heads { data_start (mended_form file.old) ≤ mended_length file.old }
@@ -71,8 +71,8 @@ fn shown_header<D: Disk>(file: &mut MendedFile, d: &mut D) -> Result<Header, Che
     }
 }
 
-/// What the database of a damaged file is read as: pages over the file that hold what its undo area gives back. They lie
-/// in memory, and the file isn't written.
+/// What the database of a damaged file is read as: pages over the file that hold what its undo area gives back. They
+/// lie in memory, and the file isn't written.
 fn read_mended<D: Disk>(
     alloc: Global,
     d: &mut D,
@@ -152,8 +152,8 @@ fn count_mended<D: Disk>(
     Ok(changed + stray)
 }
 
-/// Mends in memory the database of a file, which begins there and has this header: it answers what it is read as, as the
-/// stock library would read it, or the first fault that keeps it from that. The file is never written; it is synced
+/// Mends in memory the database of a file, which begins there and has this header: it answers what it is read as, as
+/// the stock library would read it, or the first fault that keeps it from that. The file is never written; it is synced
 /// once.
 ///
 /// Where the gate of its undo area is open, what the area keeps is given back: an entry may pass the length that the

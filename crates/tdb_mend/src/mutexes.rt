@@ -150,9 +150,9 @@ fn front_at<D: Disk>(d: &mut D, start: u64, len: u64) -> Result<Header, FrontRef
 }
 
 /// Where the database of a file begins, and what its header says; or what is wrong with its front. It begins at 0; but
-/// where the header says that the file has mutexes, and asks for no other feature, it begins behind these, at the offset
-/// that the word at 64 tells. There stands a header of its own, whose word for features counts as 0. It reads at most
-/// 336 bytes, and writes nothing.
+/// where the header says that the file has mutexes, and asks for no other feature, it begins behind these, at the
+/// offset that the word at 64 tells. There stands a header of its own, whose word for features counts as 0. It reads at
+/// most 336 bytes, and writes nothing.
 pub fn find_database<D: Disk>(d: &mut D) -> Result<Database, FrontRefusal>
     ensures start { IfOk result (λ b. IsTrue D.tells → b.start ≡ begins_at (seen (D.history d.old))) }
     ensures header { IfOk result (λ b. IsTrue D.tells → HasHeader (database_in (seen (D.history d.old))) b.header) }

@@ -34,8 +34,8 @@ fn put_area(extents: &mut Vec<Extent>, area: Option<Extent>) -> Result<(), Alloc
     Ok(())
 }
 
-/// Follows the chains and then the free list of a file of `len` bytes, and answers the extents of their records; or what
-/// is first wrong with one of them.
+/// Follows the chains and then the free list of a file of `len` bytes, and answers the extents of their records; or
+/// what is first wrong with one of them.
 fn follow_records<S: Space>(alloc: Global, s: &mut S, len: u64) -> Result<Vec<Extent>, CheckRefusal>
     requires length { len ≡ S.size s.old }
     requires heads { data_start (S.form s.old) ≤ len }

@@ -30,8 +30,8 @@ impl MendedFile {
     }
 }
 
-/// The view of a mended file over the file that it was read of. What is written to it goes into the pages in memory, and
-/// the file stays as it is. It can't be made longer.
+/// The view of a mended file over the file that it was read of. What is written to it goes into the pages in memory,
+/// and the file stays as it is. It can't be made longer.
 #[derive(Drop)]
 pub struct MendedView<'a, D: Disk> {
     /// What the file is read as.

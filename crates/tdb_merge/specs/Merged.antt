@@ -37,8 +37,8 @@ StopsHolding f held h = (c : List ℕ) → Leaves h c → OpensHolding f held c
 abbrev pub IsReadHolding : Form → Holding → List ℕ → Type 0
 IsReadHolding f held img = (key : List ℕ) → map_of f (restored f img) key ≡ held key
 
--- What a merge leaves of its file, by its answer. Done, a stop leaves only what opens to what was merged. Where there was
--- no room, a command found no memory, or the pairs weren't read, the file is read as before. Where a log failed, or
+-- What a merge leaves of its file, by its answer. Done, a stop leaves only what opens to what was merged. Where there
+-- was no room, a command found no memory, or the pairs weren't read, the file is read as before. Where a log failed, or
 -- memory was wanting beside the commands, it is read as before or as merged. After a failed call nothing is said.
 abbrev pub MergeLeaves : Form → Holding → Holding → History → Result (Unit {0}) MergeFault → Type 0
 MergeLeaves f before after now (Ok v) = StopsHolding f after now

@@ -75,8 +75,8 @@ pub record Does (m n : Map) (from : Phase) (end : Map) (to : Phase) (c : Command
 abbrev pub IsReadWith : Map → OverFile → Type 0
 IsReadWith m w = m ≡ image_map (form_at w.world) (restored (form_at w.world) (seen w.history))
 
--- What a part of a merge leaves, by its answer, where the committed map was m and is to become n: what it leads to; or a
--- file that is read with m, or, where a log failed or memory was wanting beside the commands, with m or n.
+-- What a part of a merge leaves, by its answer, where the committed map was m and is to become n: what it leads to; or
+-- a file that is read with m, or, where a log failed or memory was wanting beside the commands, with m or n.
 abbrev pub PartLeaves : Map → Map → Type 0 → OverFile → Result (Unit {0}) MergeFault → Type 0
 PartLeaves m n Led w (Ok v) = Led
 PartLeaves m n Led w (Err (Full len need)) = IsReadWith m w

@@ -51,10 +51,10 @@ fn merge_in<S: Space, D: Disk, L: Logs>(
     do_command(alloc, world, Command::Commit, logs)
 }
 
-/// Stores the pairs of a file whose key begins with `prefix` into the file of a world in which nobody has joined, in one
-/// transaction; then the world is given up, and its disk comes back. A key that the file has gets the new value; its
-/// other keys stay. The file that is read stays as it is. The last log is told what the commands do to the file: that
-/// it grows.
+/// Stores the pairs of a file whose key begins with `prefix` into the file of a world in which nobody has joined, in
+/// one transaction; then the world is given up, and its disk comes back. A key that the file has gets the new value;
+/// its other keys stay. The file that is read stays as it is. The last log is told what the commands do to the file:
+/// that it grows.
 ///
 /// The pairs are read one by one, in the order of a dump. All that the transaction changes is kept in memory up to its
 /// commit, in pages of the file; so where it breaks off before that the file isn't written.

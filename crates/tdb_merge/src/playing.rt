@@ -42,8 +42,8 @@ fn doing(command: Command) -> Play
     Play::Do { who, command }
 }
 
-/// Takes a play by which the opener does a command, and tells the logs what became of the file. A refusal of a log comes
-/// before the ending of the command.
+/// Takes a play by which the opener does a command, and tells the logs what became of the file. A refusal of a log
+/// comes before the ending of the command.
 fn take_play<D: Disk, L: Logs>(
     alloc: Global,
     world: &mut World<D>,

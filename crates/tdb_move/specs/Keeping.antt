@@ -7,8 +7,8 @@ use Rattle.tdb_world.specs.OverFile.{OverFile}
 use Rattle.tdb_group.specs.Members.{Maps, form_of_file}
 use Rattle.tdb_group.specs.Stops.{AfterSome, AreLeftSince}
 
--- The files of a group are two, of which the first has this value for a key after its transaction, and the second before
--- it.
+-- The files of a group are two, of which the first has this value for a key after its transaction, and the second
+-- before it.
 pub record HandsOver (key value : List ℕ) (ps : ℕ → Maps) (files : List OverFile) : Type 0 where
   pub two : length files ≡ 2
   pub gets : get (ps 0).after key ≡ Some value

@@ -12,9 +12,9 @@ use Rattle.tdb_move.specs.declared.fault.MoveFault.TheVariants.{KeyMissing, Full
 abbrev pub put : Holding → List ℕ → Option (List ℕ) → Holding
 put held key value other = if same_key key other then value else held other
 
--- What two files hold, the one that has the key and the other, which are read in these forms; and what they hold once it
--- was moved: the first has lost it, the other has it with the value that the first gave it, and all other keys are as
--- they were.
+-- What two files hold, the one that has the key and the other, which are read in these forms; and what they hold once
+-- it was moved: the first has lost it, the other has it with the value that the first gave it, and all other keys are
+-- as they were.
 pub record Both : Type 0 where
   pub from : Holding
   pub into : Holding

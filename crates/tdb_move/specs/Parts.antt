@@ -42,8 +42,8 @@ pub record LeadsTo (ps : ℕ → Maps) (m n : Map) (g : GroupState) : Type 0 whe
   pub into : (some.maps 0).after ≡ m
   pub from : (some.maps 1).after ≡ n
 
--- The files of a group went on in a part of a move. From their transactions on each stop since then leaves every file at
--- its map before.
+-- The files of a group went on in a part of a move. From their transactions on each stop since then leaves every file
+-- at its map before.
 pub record Went {V : Type 0} (tells : Bool) (old new : GroupState) (answer : Result V MoveFault) : Type 0 where
   pub count : length new.files ≡ length old.files
   pub finished : new.finished ≡ old.finished

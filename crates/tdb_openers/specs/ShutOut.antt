@@ -116,8 +116,8 @@ is_head f img j = nat_lt j f.chains && not (word f.order img (chain_head j) == 0
 abbrev pub heads_in : Form → List ℕ → ℕ → Bool
 heads_in f img b = (b == lock_byte ((b - 168) / 4)) && is_head f img ((b - 168) / 4)
 
--- What a move reads of the file: the heads of its chains. They are those of the side that shuts the others out, and tell
--- what they have to of the image that others see, which is accepted.
+-- What a move reads of the file: the heads of its chains. They are those of the side that shuts the others out, and
+-- tell what they have to of the image that others see, which is accepted.
 pub record HeadsShow (w : World) (img file : List ℕ) (s : Side) : Type 0 where
   pub accepted : AcceptWith (form_in w.header) img []
   pub reaches : data_start (form_in w.header) ≤ length file

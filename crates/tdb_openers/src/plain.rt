@@ -33,8 +33,8 @@ use tdb_steps::Machine;
 /// A turn takes a lock of the command's row, or looks or changes the file. `Blocked` where another opener's lock
 /// conflicts: nothing changes then. With its reply the command lets go of what it took, and a change that it made
 /// raises the sequence number where the options say so. `Io` where the disk failed: then it keeps its locks. After a
-/// reply or `Io` the machine is before its first turn. The reply is `Full` exactly where the file has no room, up to the
-/// limit, for what the command stores.
+/// reply or `Io` the machine is before its first turn. The reply is `Full` exactly where the file has no room, up to
+/// the limit, for what the command stores.
 ///
 /// Cost: a pass over the lock table where a lock is taken; else the chain of the key, the free list, or the writes,
 /// once each.

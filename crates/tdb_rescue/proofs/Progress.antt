@@ -63,8 +63,8 @@ written_on before now held later left given w on =
       }
     ]
 
--- All pairs that can be read before a place were found, so many; and where the sink tells, their text was written, up to
--- what is still held of it.
+-- All pairs that can be read before a place were found, so many; and where the sink tells, their text was written, up
+-- to what is still held of it.
 pub record Progress (sink : Type 0) (f : Form) (img before now held : List ℕ) (at count : ℕ) : Type 0 where
   pub given : List (ℕ × List ℕ × List ℕ)
   pub up_to : UpTo f img at given

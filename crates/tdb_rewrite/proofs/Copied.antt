@@ -141,8 +141,8 @@ stand_joined f img R (suc n) low =
     stand_both f img (joined n (chain_of f img)) (chain_of f img n) (stand_joined f img R n (omega (arith, low)))
     (stand_chain f img n (word f.order img (chain_head n)) (chain_of f img n) (R.chains n (omega (arith, low))) (R.filed n (omega (arith, low))))
 
--- The records at some offsets are still to be copied, and the pairs of those that were are held: with the others they are
--- all that are chosen.
+-- The records at some offsets are still to be copied, and the pairs of those that were are held: with the others they
+-- are all that are chosen.
 pub record Ahead (f : Form) (img prefix : List ℕ) (g : Form) (b offs : List ℕ) : Type 0 where
   pub stand : AllStand f img offs
   pub done : List (List ℕ × List ℕ)

@@ -20,8 +20,8 @@ HasHeader f img x = x.rec ≡ rec_at f.order img x.off
 abbrev pub HaveHeaders : Form → List ℕ → List Listed → Type 0
 HaveHeaders f img xs = All (HasHeader f img) xs
 
--- the offsets of the records of an image that are still to come: those of the chains that weren't walked along, and those
--- that are left of the chain behind these
+-- the offsets of the records of an image that are still to come: those of the chains that weren't walked along, and
+-- those that are left of the chain behind these
 abbrev pub to_come : Form → List ℕ → Places → List ℕ
 to_come f img places = joined places.chains (chain_of f img) ++ offs_of places.records.items
 

@@ -84,10 +84,10 @@ fn copy_record<S: Space, T: Space>(
 }
 
 /// Adds the pairs of a file whose key begins with `prefix` to a file that ends where its data start, which may be up to
-/// `limit` bytes long. The two may differ in byte order, hash and number of chains. The new file then has no dead record
-/// and no undo area, each of its bytes from the data start on lies in a record, and each of its chains has its pairs in
-/// the order in which the file that is read has them. That file needn't be accepted: it is enough that its pairs can be
-/// read (`Readable`), whatever stands beside the records of its chains.
+/// `limit` bytes long. The two may differ in byte order, hash and number of chains. The new file then has no dead
+/// record and no undo area, each of its bytes from the data start on lies in a record, and each of its chains has its
+/// pairs in the order in which the file that is read has them. That file needn't be accepted: it is enough that its
+/// pairs can be read (`Readable`), whatever stands beside the records of its chains.
 ///
 /// A pair is put in front of its chain, so the pairs are added from the last one to the first, without a look-up: time
 /// is linear in the length of the file that is read. It walks along each chain right before it copies that chain's

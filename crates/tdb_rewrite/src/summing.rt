@@ -79,8 +79,8 @@ pub fn sum_up<S: Space>(s: &mut S, report: &Report) -> Result<Summary, Io>
 /// The summary of an accepted file. Where it isn't accepted, its first fault.
 ///
 /// It checks the file, and then sums it up. But for what the check keeps it holds no more than a few numbers: the lines
-/// of the records are those of `chain_lines`. It changes nothing. `Io` where the disk failed, and `Memory` where that is
-/// wanting for the check.
+/// of the records are those of `chain_lines`. It changes nothing. `Io` where the disk failed, and `Memory` where that
+/// is wanting for the check.
 pub fn summary<S: Space>(alloc: Global, s: &mut S) -> Result<Summary, SummaryRefusal>
     ensures summed_up { IfOk result (λ sum. IsTrue S.tells → IsFormOf (S.form s.old) (S.image s.old) → Accept (S.image s.old) × SumsUp (S.image s.old) sum) }
     ensures first_fault { IfErr result (λ e. IsTrue S.tells → IsFormOf (S.form s.old) (S.image s.old) → Names e (IsFirstFault (S.image s.old))) }

@@ -105,9 +105,9 @@ fn write_records<K: Sink>(alloc: Global, records: &FreeRecs, out: &mut K) -> Res
 
 /// Writes the free records of a file by a line for each, from the head of the free list on.
 ///
-/// It reads 24 bytes of each record, holds 8 for each, and writes in pieces of at least 64 KiB. Where it is refused some
-/// of the text was written, from its beginning on: `Io` where the disk failed, `Failed` where the sink did, and `Memory`
-/// where that is wanting for the list or the text.
+/// It reads 24 bytes of each record, holds 8 for each, and writes in pieces of at least 64 KiB. Where it is refused
+/// some of the text was written, from its beginning on: `Io` where the disk failed, `Failed` where the sink did, and
+/// `Memory` where that is wanting for the list or the text.
 pub fn write_free_list<S: Space, K: Sink>(
     alloc: Global,
     s: &mut S,
@@ -128,9 +128,9 @@ pub fn write_free_list<S: Space, K: Sink>(
 
 /// Writes the summary of an accepted file, in which a check counted this: a line for each number.
 ///
-/// It reads 24 bytes of each record. Where it is refused some of the text was written, from its beginning on: `Io` where
-/// the disk failed, `Failed` where the sink did, and `Memory` where that is wanting for the text, which is shorter than
-/// 400 bytes.
+/// It reads 24 bytes of each record. Where it is refused some of the text was written, from its beginning on: `Io`
+/// where the disk failed, `Failed` where the sink did, and `Memory` where that is wanting for the text, which is
+/// shorter than 400 bytes.
 pub fn write_summary<S: Space, K: Sink>(
     alloc: Global,
     s: &mut S,

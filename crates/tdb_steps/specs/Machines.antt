@@ -106,8 +106,8 @@ CommandMakes f a b (Append key value) was now old next = AppendMakes f a b key v
 CommandMakes f a b Wipe was now old next = WipeMakes f a b old next
 CommandMakes f a b command was now old next = Makes f a b (key_of command) (asked_of command) old next
 
--- What a turn of a command from a stage leaves where it fails: a wipe what one leaves, and any other command what a turn
--- on its key leaves.
+-- What a turn of a command from a stage leaves where it fails: a wipe what one leaves, and any other command what a
+-- turn on its key leaves.
 abbrev pub CommandStopped : Form → List ℕ → List ℕ → Plain → Stage → Type 0
 CommandStopped f a b Wipe stage = WipeStopped f a b
 CommandStopped f a b command stage = TurnStopped f a b (key_of command) (hands_in stage)

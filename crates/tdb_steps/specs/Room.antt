@@ -1,4 +1,5 @@
--- The room that an image has for what a command stores, and that a turn ends for want of it exactly where there is none.
+-- The room that an image has for what a command stores, and that a turn ends for want of it exactly where there is
+-- none.
 use Rattle.std.specs.Prelude.{ℕ, ◌+◌, ◌≡◌, ◌<◌, ◌⊎◌, List, length, Option, None, Some, is_some, if◌then◌else◌}
 use Rattle.tdb_space.specs.Form.{Form}
 use Rattle.tdb_space.specs.Pairs.{map_of}

@@ -43,8 +43,8 @@ pub fn fetch_turn<S: Space>(alloc: Global, stage: Stage, s: &mut S, key: &[u8]) 
     }
 }
 
-/// A turn of the question whether a key is there: as those of a fetch, but that no value is read and no memory taken. So
-/// it ends with `Yes` or `No`, whatever the bytes of the file are.
+/// A turn of the question whether a key is there: as those of a fetch, but that no value is read and no memory taken.
+/// So it ends with `Yes` or `No`, whatever the bytes of the file are.
 pub fn has_turn<S: Space>(stage: Stage, s: &mut S, key: &[u8]) -> Result<Next, Io>
     requires key { length key.now < 2 ^ 32 }
     requires chains { 0 < (S.form s.old).chains }

@@ -26,8 +26,8 @@ pub record CallsFrom (w : Whole) (old now : History) (from to : ℕ) (sound : Ty
 -- that the calls before it left, and over a file of the length that the lines before it tell. It leads from each state
 -- of that world to a state of the next, and it ends with Full exactly where the image that its opener sees has no room
 -- for what the command stores, with those numbers (`Calls` of `tdb_world`). The first call was made in a world with
--- these options that was just loaded over a file of this form; the last one left the file as it is now, but for what the
--- call may have changed at which the disk failed.
+-- these options that was just loaded over a file of this form; the last one left the file as it is now, but for what
+-- the call may have changed at which the disk failed.
 pub record TellsCalls (f : Form) (asked : Options) (old now : History) (sound : Type 0) (lines : List Line) : Type 0 where
   pub world : Whole
   pub form : form_at world ≡ f

@@ -42,8 +42,8 @@ fn flush_both<K: Sink>(
     flush(output, text)
 }
 
-/// Puts a text behind the one that is held, where both are less than a piece and there is memory for it. Tells whether it
-/// did.
+/// Puts a text behind the one that is held, where both are less than a piece and there is memory for it. Tells whether
+/// it did.
 fn append_short(held: &mut Vec<u8>, text: &[u8]) -> bool
     ensures { held.new.items ≡ (if result then held.old.items ++ text.now else held.old.items) }
 {

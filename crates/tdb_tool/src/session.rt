@@ -74,9 +74,9 @@ fn serve_and_close<D: Disk, I: Source, K: Sink, L: Logs>(
 /// longer than `LONGEST_LINE`. A transaction that is open then isn't committed.
 ///
 /// `Input` where a read failed, with all orders up to there done; `Output` where a write failed, which no command
-/// follows; `Device` where the disk did, and then no more of a list is printed; `Log` where a log failed, with the reply
-/// printed of the command whose notice it didn't take; `Memory` where that was wanting, for the close too. Then the
-/// opener isn't closed, but by a close whose notice a log refused.
+/// follows; `Device` where the disk did, and then no more of a list is printed; `Log` where a log failed, with the
+/// reply printed of the command whose notice it didn't take; `Memory` where that was wanting, for the close too. Then
+/// the opener isn't closed, but by a close whose notice a log refused.
 ///
 /// Cost: that of the commands, and one pass over the text; memory for a piece of the input, the line at hand, of a list
 /// one pair and up to 64 KiB of text, and the pages of the file that a transaction changes.

@@ -146,16 +146,16 @@ fn finish<K: Sink>(alloc: Global, answered: &Result<Ending, Unprinted>, output: 
 /// the line that tells it, NEW is removed.
 ///
 /// The command `mend FILE NEW` reads FILE in memory as the stock library would read it (`mend` of `tdb_mend`, whose doc
-/// tells what that costs), makes NEW as `create` does, in the form that is so read, and adds the pairs as a repack does.
-/// FILE keeps its bytes, and is synced before it is read. Where there is no memory for the line that tells it, or the
-/// output doesn't take it, NEW is removed. No log is told.
+/// tells what that costs), makes NEW as `create` does, in the form that is so read, and adds the pairs as a repack
+/// does. FILE keeps its bytes, and is synced before it is read. Where there is no memory for the line that tells it, or
+/// the output doesn't take it, NEW is removed. No log is told.
 ///
 /// The command `convert --into FILE NEW` opens FILE so too and NEW as a session does, and stores the pairs into NEW in
 /// one transaction. It holds one pair, and the pages of NEW that the transaction changes, up to its commit.
 ///
 /// The command `tool FILE move KEY FILE2` opens FILE and then FILE2 as a session does, stores the value of KEY into
-/// FILE2 and takes it out of FILE, each in a transaction of its own, and commits FILE2 first. It holds the pages of both
-/// that these change, up to the commits.
+/// FILE2 and takes it out of FILE, each in a transaction of its own, and commits FILE2 first. It holds the pages of
+/// both that these change, up to the commits.
 ///
 /// The command `restore FILE` makes a file as `create` does, reads the input in pieces of 64 KiB, adds each pair
 /// without looking its key up, and syncs: time is linear in the text and in the file. It holds all keys, so as to
@@ -179,9 +179,9 @@ fn finish<K: Sink>(alloc: Global, answered: &Result<Ending, Unprinted>, output: 
 /// is removed again.
 ///
 /// The last of the logs is told what becomes of each file that is opened: the undo, what the check counted or the fault
-/// for which the file is refused, the growth by an act, and what turns and sessions do; and each growth of the file that
-/// a `restore`, a `gen`, a `backup` or a restored copy makes. A notice that it refuses ends the run. What an act did
-/// stands then: where the log doesn't take its growth, the status is 10, also where the log wants memory.
+/// for which the file is refused, the growth by an act, and what turns and sessions do; and each growth of the file
+/// that a `restore`, a `gen`, a `backup` or a restored copy makes. A notice that it refuses ends the run. What an act
+/// did stands then: where the log doesn't take its growth, the status is 10, also where the log wants memory.
 pub fn run<F: Files, S: Source, K: Sink, L: Logs>(
     alloc: Global,
     words: &[String],

@@ -78,8 +78,8 @@ abbrev pub of_runs : RunsRefusal → TxnRefusal
 of_runs Runs.Io = Io
 of_runs (Runs.Memory content) = Memory
 
--- Where memory is wanting for runs whose content is so long, and the extent of the undo area is empty, a plan is refused
--- for want of room just where the new area would bring the file past the limit; and else for want of memory.
+-- Where memory is wanting for runs whose content is so long, and the extent of the undo area is empty, a plan is
+-- refused for want of room just where the new area would bring the file past the limit; and else for want of memory.
 abbrev pub IsNoRoomFor : ℕ → ℕ → ℕ → Extent → TxnRefusal → Type 0
 IsNoRoomFor content size limit e (Full len need) = (e.1 ≡ 0) × (len ≡ size) × (content < 2 ^ 40 → need ≡ new_area_length content) × (limit < len + need)
 IsNoRoomFor content size limit e Io = ⊥
@@ -121,8 +121,8 @@ LeftFor old size new now (Ok (Ready planned)) = now ≡ plan_length (planned_pla
 LeftFor old size new now (Err Io) = Unit {0}
 LeftFor old size new now (Err _) = (new ≡ old) × (now ≡ size)
 
--- How many syncs the plan of a commit into image r makes: none where the undo area of r is kept, three where r has none,
--- and five where its area is replaced, since it is too short for the content of all that changes.
+-- How many syncs the plan of a commit into image r makes: none where the undo area of r is kept, three where r has
+-- none, and five where its area is replaced, since it is too short for the content of all that changes.
 pub data AreaSyncs (txn : Txn) (r : List ℕ) (before now : ℕ) : Type 0 where
   kept : (e : Extent) (runs : List Extent) → MayKeep txn r e runs → now ≡ before → AreaSyncs txn r before now
   anew : word (form_of r).order r area_head ≡ 0 → RoseBy 3 before now → AreaSyncs txn r before now

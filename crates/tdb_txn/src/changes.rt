@@ -34,8 +34,8 @@ impl Txn {
     }
 
     /// The runs of the bytes that it changed below the length that the file had at Start, outside its undo area. The
-    /// file may get `limit` bytes. Where memory is wanting for the runs, and the file has no undo area yet, `Full` comes
-    /// if the area that is wanted would bring the file past the limit.
+    /// file may get `limit` bytes. Where memory is wanting for the runs, and the file has no undo area yet, `Full`
+    /// comes if the area that is wanted would bring the file past the limit.
     pub(crate) fn changes<D: Disk>(
         &self,
         d: &mut D,

@@ -225,8 +225,8 @@ prepare_row f x len need filling row =
       | inr starves ↦ let e = starves.0 in cc e
     ]
 
--- A turn inside the transaction, which isn't prepared: what its own machine says of a command on the map, and the law of
--- each other one.
+-- A turn inside the transaction, which isn't prepared: what its own machine says of a command on the map, and the law
+-- of each other one.
 module _ (f : Form) (img : List ℕ) (limit : ℕ) (x : Own) (turn : Law.Turn) where
   abbrev Goal : Command → Type 0
   Goal c = FullJustWhere (GrantedLacks f img limit c x) turn

@@ -1,4 +1,5 @@
--- What the heads of the chains tell while an opener holds all records for writing: others read nothing else of the file.
+-- What the heads of the chains tell while an opener holds all records for writing: others read nothing else of the
+-- file.
 use Rattle.std.specs.Prelude.{◌≡◌, ℕ, ◌≤◌, List, Bool, true, false, Some, nat_le, if◌then◌else◌, length}
 use Rattle.tdb_disk.specs.History.{History, seen}
 use Rattle.tdb_words.specs.Word.{word}

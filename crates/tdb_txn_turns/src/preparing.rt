@@ -197,11 +197,12 @@ impl Preparing {
     /// The turns take all records for writing; the opening lock, and the sequence number with it where the changes
     /// raise that; see to the undo area; fill it; and open its gate. `Blocked` by the first conflict: then nothing
     /// changes. Where nothing is to be committed, the first turn or the third ends it so. `Memory` comes up to the
-    /// third turn, of a lock only where no other opener's is in its way; `Full` at the third alone, only where a new undo
-    /// area is wanted and with it the file would pass the limit, with the length of the transaction's image and that of
-    /// the area. There it comes where the file has no undo area yet; and where none of those fits that may be wanted,
-    /// unless memory is wanting. Both come before the file is changed, and then the opener holds nothing. A stop at any moment leaves a file that opens to the map
-    /// before. `Io` where the disk failed: then the commit is given up, and the opener keeps its locks.
+    /// third turn, of a lock only where no other opener's is in its way; `Full` at the third alone, only where a new
+    /// undo area is wanted and with it the file would pass the limit, with the length of the transaction's image and
+    /// that of the area. There it comes where the file has no undo area yet; and where none of those fits that may be
+    /// wanted, unless memory is wanting. Both come before the file is changed, and then the opener holds nothing. A
+    /// stop at any moment leaves a file that opens to the map before. `Io` where the disk failed: then the commit is
+    /// given up, and the opener keeps its locks.
     ///
     /// Cost: a pass over the lock table, or a state of a commit.
     pub fn step<D: Disk>(

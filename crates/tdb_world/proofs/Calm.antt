@@ -220,8 +220,8 @@ module _ (m n : Map) (f : Form) where
   calm_end q [] all = all
   calm_end q (line ∷ lines) all = calm_end (next_line f q line) lines all.1
 
-  -- So no state that the lines pass has somebody in the middle of a change, and what opens on their way opens to one of the
-  -- two maps.
+  -- So no state that the lines pass has somebody in the middle of a change, and what opens on their way opens to one of
+  -- the two maps.
   module _ (old : State) (q : Replay) (S : IsSound f old) (P : Stands f old q) (lines : List Line) (all : AllCalm m n f q lines) where
     pub calm_transacted : IsTransacted f old lines
     calm_transacted s o X M =

@@ -24,8 +24,8 @@ impl AllOpeners {
     /// a check found a fault in the file, which no turn leaves. A Commit of a prepared transaction is never blocked,
     /// and is done after at most four turns of its opener. `Full` comes exactly where the image that the opener sees
     /// has no room, up to the limit, for what the command stores. The first turn of a Start is blocked by the one aside
-    /// where that holds the lock byte of transactions, and never wants memory there. After `Io` outside a transaction at
-    /// most the chain of the command's key, the free list, their heads, the command's record and the sequence number
+    /// where that holds the lock byte of transactions, and never wants memory there. After `Io` outside a transaction
+    /// at most the chain of the command's key, the free list, their heads, the command's record and the sequence number
     /// have changed.
     ///
     /// Cost: that of the command's turn, and a search in the lock table; nothing is passed over that doesn't belong to

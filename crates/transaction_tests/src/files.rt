@@ -74,8 +74,8 @@ pub(crate) fn is_long<D: Disk>(d: &mut D, len: u64) -> bool
     }
 }
 
-/// A transaction that writes bytes at an offset of a file of `len` bytes, where it may be planned on a file that may get
-/// `limit` bytes.
+/// A transaction that writes bytes at an offset of a file of `len` bytes, where it may be planned on a file that may
+/// get `limit` bytes.
 pub(crate) fn changed<D: Disk>(
     alloc: Global,
     d: &mut D,

@@ -25,8 +25,8 @@ use Rattle.tdb_log.specs.Logs.{Logged, ToldAll}
 use Rattle.tdb_log.specs.declared.notice.Notice.{Notice}
 use Rattle.tdb_open.specs.Opening.{of_log, opened_bytes, CanOpen, IsRefused, SameOrUndone, UndoneIfOpen, LookBroken, HeldOrUndone, HeldBroken}
 
--- A file is a copy of an image: it is accepted, has the same form and the same map, and all of it is on the medium. It is
--- a new file to which the pairs of the image were added in their order.
+-- A file is a copy of an image: it is accepted, has the same form and the same map, and all of it is on the medium. It
+-- is a new file to which the pairs of the image were added in their order.
 pub record IsCopyOf (img : List ℕ) (now : History) : Type 0 where
   pub accepted : Accept (seen now)
   pub form : form_of (seen now) ≡ form_of img

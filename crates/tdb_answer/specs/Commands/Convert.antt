@@ -1,5 +1,5 @@
--- The command that makes another file of the pairs of one: why it ends, what it prints, and what it leaves at the name of
--- the new file. The file that is read stays as it is.
+-- The command that makes another file of the pairs of one: why it ends, what it prints, and what it leaves at the name
+-- of the new file. The file that is read stays as it is.
 use Rattle.std.specs.Prelude.{◌≡◌, ◌⊎◌, ◌<◌, ◌≤◌, ◌++◌, ◌∷◌, ℕ, IsSome, Option, None, Some, List, [], Result, Ok, Err, codes, length}
 use Rattle.tdb_disk.specs.History.{History, seen}
 use Rattle.tdb_cmdline.specs.declared.lines.create.NewFile.{NewFile}
@@ -24,10 +24,10 @@ IsTooLarge made held refusal = (held ≡ None) × (made.limit < new_length made.
 abbrev pub HasNoConversion : NewFile → List ℕ → List ℕ → Reply → Type 0
 HasNoConversion made prefix img reply = IsFullFor img prefix (made_form made.form) made.limit reply
 
--- How the command ends over a file with these bytes, by what is held at the name of the new one, but for a refusal of the
--- file, a failed call, a log that failed and want of memory: the file has no more bytes than the new one may have, and is
--- opened to be read alone; and there is a file at that name; or the new one would be too long; or it is made, or has no
--- room.
+-- How the command ends over a file with these bytes, by what is held at the name of the new one, but for a refusal of
+-- the file, a failed call, a log that failed and want of memory: the file has no more bytes than the new one may have,
+-- and is opened to be read alone; and there is a file at that name; or the new one would be too long; or it is made, or
+-- has no room.
 pub record ConvertEnds (made : NewFile) (prefix img new : List ℕ) (held : Option History) (e : Ending) : Type 0 where
   pub within : length img ≤ made.limit
   pub can_read : CanRead img
@@ -83,8 +83,8 @@ ToldLeft old (Err Rest.Files) now = now ≡ None
 ToldLeft old (Err Rest.Fault) now = Unit {0}
 ToldLeft old (Err rest) now = ⊥
 
--- The line that tells that the new file is made, and its newline. It stands before an ending for which no line is written.
--- Where the output fails in its midst the new file is removed, and the command ends as one for which memory was wanting,
--- or, where that fails, a call.
+-- The line that tells that the new file is made, and its newline. It stands before an ending for which no line is
+-- written. Where the output fails in its midst the new file is removed, and the command ends as one for which memory
+-- was wanting, or, where that fails, a call.
 abbrev pub converted_line : List ℕ
 converted_line = codes "ok" ++ 10 ∷ []

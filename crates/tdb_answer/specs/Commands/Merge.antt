@@ -1,5 +1,5 @@
--- The command that stores the pairs of a file into another one: why it ends, and what it leaves at the name of the other.
--- The file that is read stays as it is.
+-- The command that stores the pairs of a file into another one: why it ends, and what it leaves at the name of the
+-- other. The file that is read stays as it is.
 use Rattle.std.specs.Prelude.{◌≡◌, ◌⊎◌, ◌≤◌, ℕ, Bool, IsTrue, Option, None, Some, List, Result, Ok, Err, length}
 use Rattle.tdb_disk.specs.Count.{Rose}
 use Rattle.tdb_disk.specs.History.{History, seen}
@@ -34,9 +34,9 @@ merge_told (Err M.Memory) = NoMemory
 abbrev pub CanMerge : ℕ → List ℕ → Type 0
 CanMerge limit img = (length img ≤ limit) × CanRead img
 
--- Why the command ends so over a file that is opened to be read alone, by what is held at the name of the other one, but
--- for a failed call, a log that failed and want of memory: there is no other file; it is refused; or it is opened as for
--- a session, and all pairs may be stored, or there may be no room.
+-- Why the command ends so over a file that is opened to be read alone, by what is held at the name of the other one,
+-- but for a failed call, a log that failed and want of memory: there is no other file; it is refused; or it is opened
+-- as for a session, and all pairs may be stored, or there may be no room.
 pub data MergeSo (limit : ℕ) (into : List ℕ) (held : Option History) : Ending → Type 0 where
   no_other : held ≡ None → MergeSo limit into held (Missing into)
   other_refused : (h : History) (refusal : Refusal) → held ≡ Some h → IsRefusedToTurn (session_options limit) (seen h) refusal → MergeSo limit into held (Refused refusal)
@@ -47,8 +47,8 @@ pub record MergeEnds (limit : ℕ) (img into : List ℕ) (held : Option History)
   pub can_merge : CanMerge limit img
   pub so : MergeSo limit into held e
 
--- A merge of the pairs of an image with this prefix ran over a file: it was opened, and the pairs were merged into it, or
--- weren't.
+-- A merge of the pairs of an image with this prefix ran over a file: it was opened, and the pairs were merged into it,
+-- or weren't.
 pub record MergedOn (limit : ℕ) (prefix img : List ℕ) (old now : History) (answer : Result (Unit {0}) MergeFault) : Type 0 where
   pub opened : History
   pub opens : OpensToTurn (session_options limit) (seen old)

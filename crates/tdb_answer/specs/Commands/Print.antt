@@ -34,7 +34,8 @@ abbrev pub PrintLeaves : ℕ → Option History → Ending → Option History �
 PrintLeaves limit None e now = now ≡ None
 PrintLeaves limit (Some old) e now = (h : History) × (now ≡ Some h) × PrintLeft limit old e h
 
--- what is printed of a file with these bytes: its pairs, so; or what it holds in numbers; or its chains, or its free list
+-- what is printed of a file with these bytes: its pairs, so; or what it holds in numbers; or its chains, or its free
+-- list
 abbrev pub printout_text : Printout → List ℕ → List ℕ
 printout_text (Pairs listing) img = pairs_text listing img
 printout_text Summary img = info_text img

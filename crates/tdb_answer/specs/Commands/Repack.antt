@@ -1,5 +1,5 @@
--- The command that writes a file anew: why it ends, and what it leaves at the name of the file and at the one at which it
--- makes the new file.
+-- The command that writes a file anew: why it ends, and what it leaves at the name of the file and at the one at which
+-- it makes the new file.
 use Rattle.std.specs.Prelude.{◌≡◌, ◌⊎◌, ◌≤◌, ℕ, Option, None, Some, List, [], length}
 use Rattle.tdb_disk.specs.History.{History, seen}
 use Rattle.tdb_space.specs.Form.{form_of}
@@ -20,8 +20,8 @@ IsRepacked img now = IsWrittenAnew img [] (form_of img) now
 abbrev pub HasNoRepack : ℕ → List ℕ → Reply → Type 0
 HasNoRepack limit img reply = IsFullFor (opened_bytes img) [] (form_of (opened_bytes img)) limit reply
 
--- How the command ends over a file with these bytes, but for a refusal of the file, a failed call, a log that failed and
--- want of memory: it has no more bytes than it may and is opened, and it is written anew, or a new one has no room.
+-- How the command ends over a file with these bytes, but for a refusal of the file, a failed call, a log that failed
+-- and want of memory: it has no more bytes than it may and is opened, and it is written anew, or a new one has no room.
 pub record RepackEnds (limit : ℕ) (img : List ℕ) (e : Ending) : Type 0 where
   pub within : length img ≤ limit
   pub can_open : CanOpen img
@@ -36,8 +36,8 @@ pub record NewStands (limit : ℕ) (was is : History) (made : Option History) : 
   pub stands : made ≡ Some new
   pub repacked : IsRepacked (opened_bytes (seen was)) new
 
--- The file isn't written anew: how that ended, what is left of the file, and what stands at the name of the new one. What
--- stood there may be removed, and where a call failed anything may stand there.
+-- The file isn't written anew: how that ended, what is left of the file, and what stands at the name of the new one.
+-- What stood there may be removed, and where a call failed anything may stand there.
 abbrev pub NotRepacked : ℕ → History → Ending → History → Option History → Option History → Type 0
 NotRepacked limit was (Replied reply) is made_old made_now =
     (length (seen was) ≤ limit) × CanOpen (seen was) × HasNoRepack limit (seen was) reply × UndoneIfOpen was is × (made_now ≡ None)
@@ -89,7 +89,8 @@ pub record WasRepacked (limit : ℕ) (old now made : Option History) : Type 0 wh
   pub can_open : CanOpen (seen was)
   pub repacked : HasRepacked was is made
 
--- How the command ends, and what is left at the names of the file and of the new one: it was written anew, or it wasn't.
+-- How the command ends, and what is left at the names of the file and of the new one: it was written anew, or it
+-- wasn't.
 abbrev pub RepackLeft : ℕ → List ℕ → Option History → Option History → Option History → Option History → Ending → Type 0
 RepackLeft limit file old now made_old made_now e =
     ((e ≡ Replied Done) × WasRepacked limit old now made_now) ⊎ RepackStopped limit file old now made_old made_now e

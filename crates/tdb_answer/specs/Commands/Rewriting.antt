@@ -1,4 +1,5 @@
--- Files that are written anew from the pairs of an opened one: what such a file is, and why it isn't written to its end.
+-- Files that are written anew from the pairs of an opened one: what such a file is, and why it isn't written to its
+-- end.
 use Rattle.std.specs.Prelude.{◌≡◌, ℕ, Option, None, Some, List, Result, Ok, Err}
 use Rattle.tdb_words.specs.declared.word.Order.{Order}
 use Rattle.tdb_words.specs.Header.{sequence_at, sequence_of}

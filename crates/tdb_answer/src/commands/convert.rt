@@ -24,8 +24,8 @@ use tdb_disk::{Files, Sink, Take};
 use tdb_log::Logs;
 use tdb_open::{Opened, Refusal};
 
-/// Makes a new file of this name of the pairs of an opened one on a disk whose key begins with `prefix`. What stands at the
-/// name stays, and no file is left that isn't whole, unless a call failed.
+/// Makes a new file of this name of the pairs of an opened one on a disk whose key begins with `prefix`. What stands at
+/// the name stays, and no file is left that isn't whole, unless a call failed.
 fn convert_to<F: Files>(
     alloc: Global,
     from: &mut F::D,
@@ -65,8 +65,8 @@ fn convert_to<F: Files>(
     }
 }
 
-/// Opens the file on a disk to read it alone, unless it has more bytes than the new one may have, and makes a new one of
-/// its pairs whose key begins with `prefix`.
+/// Opens the file on a disk to read it alone, unless it has more bytes than the new one may have, and makes a new one
+/// of its pairs whose key begins with `prefix`.
 fn convert_disk<F: Files, L: Logs>(
     alloc: Global,
     from: &mut F::D,
@@ -95,8 +95,8 @@ fn convert_disk<F: Files, L: Logs>(
     }
 }
 
-/// Opens the file of this name to read it alone, unless it has more bytes than the new one may have, and makes a new one
-/// of its pairs whose key begins with `prefix`.
+/// Opens the file of this name to read it alone, unless it has more bytes than the new one may have, and makes a new
+/// one of its pairs whose key begins with `prefix`.
 fn convert_file<F: Files, L: Logs>(
     alloc: Global,
     file: &str,
@@ -156,8 +156,8 @@ fn tell_converted<F: Files, K: Sink>(
     }
 }
 
-/// Makes a new file of the pairs of the file of this name whose key begins with `prefix`, and prints that it is made. The
-/// file stays as it is, and so does what stands at the name of the new one.
+/// Makes a new file of the pairs of the file of this name whose key begins with `prefix`, and prints that it is made.
+/// The file stays as it is, and so does what stands at the name of the new one.
 pub(crate) fn convert<F: Files, K: Sink, L: Logs>(
     alloc: Global,
     file: &str,

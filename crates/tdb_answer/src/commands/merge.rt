@@ -34,8 +34,8 @@ fn told(answer: Result<(), MergeFault>) -> Ending
     }
 }
 
-/// Opens the file on a disk as for a session, merges into it the pairs of an opened file on another one whose key begins
-/// with `prefix`, and gives the disk back.
+/// Opens the file on a disk as for a session, merges into it the pairs of an opened file on another one whose key
+/// begins with `prefix`, and gives the disk back.
 fn merge_on_disk<D: Disk, L: Logs>(
     alloc: Global,
     first: &mut D,
@@ -94,8 +94,8 @@ fn merge_into<F: Files, L: Logs>(
     }
 }
 
-/// Opens the file on a disk to read it alone, unless it has more bytes than it may, and merges its pairs whose key begins
-/// with `prefix` into the file of this name.
+/// Opens the file on a disk to read it alone, unless it has more bytes than it may, and merges its pairs whose key
+/// begins with `prefix` into the file of this name.
 fn merge_disk<F: Files, L: Logs>(
     alloc: Global,
     from: &mut F::D,
@@ -122,8 +122,8 @@ fn merge_disk<F: Files, L: Logs>(
     }
 }
 
-/// Stores the pairs of the file of this name whose key begins with `prefix` into another one, in one transaction. Each of
-/// the two may have `limit` bytes, before and after. The first file stays as it is.
+/// Stores the pairs of the file of this name whose key begins with `prefix` into another one, in one transaction. Each
+/// of the two may have `limit` bytes, before and after. The first file stays as it is.
 pub(crate) fn merge_file<F: Files, L: Logs>(
     alloc: Global,
     file: &str,

@@ -55,8 +55,8 @@ fn write_printout<S: Space, K: Sink>(
     }
 }
 
-/// Prints this of an opened file. It reads the file once, holds one pair or the lines of one chain or the free list, and
-/// writes in pieces of 64 KiB or more.
+/// Prints this of an opened file. It reads the file once, holds one pair or the lines of one chain or the free list,
+/// and writes in pieces of 64 KiB or more.
 pub(crate) fn print_opened<D: Disk, K: Sink>(
     alloc: Global,
     disk: &mut D,

@@ -97,7 +97,8 @@ fn repack_disk<F: Files, L: Logs>(
     }
 }
 
-/// Opens the file of this name, unless it has more than so many bytes, and writes it anew to a new file of another name.
+/// Opens the file of this name, unless it has more than so many bytes, and writes it anew to a new file of another
+/// name.
 fn repack_opened<F: Files, L: Logs>(
     alloc: Global,
     file: &str,
@@ -161,8 +162,8 @@ fn repack_at<F: Files, L: Logs>(
 }
 
 /// Opens the file of this name, unless it has more than so many bytes, and writes it anew in its own form, without dead
-/// records and without an undo area. It may be no longer than that then. The new file is made at its name and `.tmp`, and
-/// takes its place when all of it is on the medium.
+/// records and without an undo area. It may be no longer than that then. The new file is made at its name and `.tmp`,
+/// and takes its place when all of it is on the medium.
 pub(crate) fn repack<F: Files, L: Logs>(
     alloc: Global,
     file: &str,

@@ -1,5 +1,5 @@
-// What a conversion makes of its file: a new one, of other chains, another hash or another byte order; or what it stores
-// into one that is there.
+// What a conversion makes of its file: a new one, of other chains, another hash or another byte order; or what it
+// stores into one that is there.
 
 ghost use Rattle.std.specs.Prelude.{◌≡◌, ◌<◌, ◌≤◌, IfOk, IfSome};
 ghost use Rattle.std.specs.Option.{option_map};

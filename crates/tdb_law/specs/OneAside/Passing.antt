@@ -38,8 +38,8 @@ pub data IsReadyToMove (f : Form) (file : Map) (x : Own) (a : Spot) (m : Mark) (
   goes_on : a.gone ≡ true → walk_ends w x.cursor n ≡ true → IsBeforeChain f file m.reached m → IsReadyToMove f file x a m w n
   begins_walk : a.gone ≡ false → n ≡ 0 → w ≡ First → x.cursor ≡ None → m.inside ≡ false → m.reached ≡ 0 → IsReadyToMove f file x a m w n
 
--- The next turn of an opener's command is a move of its cursor, which stands on no record. So it has no lock to take but
--- those of the chains on its way.
+-- The next turn of an opener's command is a move of its cursor, which stands on no record. So it has no lock to take
+-- but those of the chains on its way.
 pub record IsAtMove (f : Form) (p : State) (who : ℕ) (t : Task) : Type 0 where
   pub walk : WalkCommand
   pub asks : t.command ≡ OnWalk walk

@@ -125,8 +125,8 @@ module _ (f : Form) (m s : State) (L : Alike m s) (o : ℕ) where
     midway = subst (λ x. IsMidway f x C.task) (sym (ap (λ (g : ℕ → Own). g o) L.own)) C.midway;
   }
 
--- A turn whose lines are cut behind one that tells what is done: that isn't one of the undo in front of the turn, and up
--- to it the lines tell of the turn.
+-- A turn whose lines are cut behind one that tells what is done: that isn't one of the undo in front of the turn, and
+-- up to it the lines tell of the turn.
 no_undo : (f : Form) (old mid : State) (ls : List LawLine) → Clears f old ls mid → (front behind : List LawLine) (line : LawLine) → ls ≡ front ++ line ∷ behind → TellsDone line → ⊥
 no_undo f old mid ls (clears_nothing fresh none same) front behind line cut done = none_cut front behind line (sym none ∙ cut)
 no_undo f old mid ls (clears_gate bytes to is U) [] behind line cut done =

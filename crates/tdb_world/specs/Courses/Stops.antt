@@ -45,7 +45,8 @@ pub record PassesBehind (f : Form) (old : State) (front rest : List LawLine) (s 
   pub parts : rest ≡ more ++ left
   pub leads : Leads f old (front ++ more) s
 
--- an image opens to the map and the number of such a state, or of the transaction whose Commit shuts its gate from there
+-- an image opens to the map and the number of such a state, or of the transaction whose Commit shuts its gate from
+-- there
 abbrev pub OpensBehind : Form → State → List LawLine → List LawLine → List ℕ → Type 0
 OpensBehind f old front rest c = (s : State) × (o : ℕ) × PassesBehind f old front rest s × TurnMayLeave f s o c
 
@@ -54,8 +55,8 @@ abbrev pub TellsDone : LawLine → Type 0
 TellsDone (Undone bytes to) = ⊥
 TellsDone line = Unit {0}
 
--- There was a moment at which the file was read as a state to which a front of the lines leads; and each stop since then
--- leaves a file that opens to a state behind this front.
+-- There was a moment at which the file was read as a state to which a front of the lines leads; and each stop since
+-- then leaves a file that opens to a state behind this front.
 pub record StaysSince (f : Form) (old new : History) (state : State) (front rest : List LawLine) : Type 0 where
   pub since : History
   pub begins : Extends old since
@@ -76,8 +77,8 @@ pub record OpensAndStays (f : Form) (old new : History) (state : State) (lines :
   pub opens : LeavesOnly old new (OpensOnTheWay f state lines)
   pub stays : StaysTold f old new state lines
 
--- Of a turn that failed nothing was told; or it was taken, and its lines told: then the file is read as a state to which
--- they lead, and a stop leaves only what opens to its map.
+-- Of a turn that failed nothing was told; or it was taken, and its lines told: then the file is read as a state to
+-- which they lead, and a stop leaves only what opens to its map.
 abbrev pub ToldWhereTaken : Form → State → ℕ → Command → History → List Line → List Line → Type 0
 ToldWhereTaken f state o c new before after =
     (after ≡ before)

@@ -67,8 +67,8 @@ pub record CountsFaults {V F : Type 0} (tells : Bool) (old new : OverFile) (answ
   pub done : OnOk answer (new.faults ≡ old.faults)
   pub failed : IsTrue tells → (state : State) → HasState old state → OnErr answer (Rose old.faults new.faults)
 
--- The gate that a dead opener left open was undone: so many bytes were put back, and the file has this length now. Bytes
--- are told only where an undo was made, with its syncs.
+-- The gate that a dead opener left open was undone: so many bytes were put back, and the file has this length now.
+-- Bytes are told only where an undo was made, with its syncs.
 pub record WasUndone (tells : Bool) (old new : OverFile) (undone : Undone) : Type 0 where
   pub leads : IsTrue tells → UndoLeads old.world new.world old.history new.history
   pub bytes : IsTrue tells → (state : State) → HasState old state

@@ -19,8 +19,8 @@ impl<D: Disk> World<D> {
     /// `Full` comes exactly where there is no room for what the command stores, up to the limit, with the length of the
     /// image and what it needs: outside a transaction in the file, at the turn in which it takes a record, and inside
     /// one in the image of the transaction. Of a Commit and a Prepare it comes at the turn that plans, and only where
-    /// a new undo area has no room in the file. The first turn of a Start is `Blocked` by the opener that holds the lock
-    /// byte of transactions, and never ends with `Memory` there.
+    /// a new undo area has no room in the file. The first turn of a Start is `Blocked` by the opener that holds the
+    /// lock byte of transactions, and never ends with `Memory` there.
     ///
     /// After `Io` outside a transaction the file isn't shorter, and at most the chain of the command's key, the free
     /// list, their heads, the command's record and the sequence number have changed: no other byte of the header, and

@@ -22,9 +22,9 @@ pub(crate) enum Gives {
     Part,
 }
 
-/// A command on "a", on whose record a cursor may stand, and what a fetch of "a" is told before it and after it. What its
-/// opener holds after each of the turns, and the turns in which a call of the disk may fail, with what the file gives
-/// then.
+/// A command on "a", on whose record a cursor may stand, and what a fetch of "a" is told before it and after it. What
+/// its opener holds after each of the turns, and the turns in which a call of the disk may fail, with what the file
+/// gives then.
 pub(crate) struct Case {
     act: Act,
     stood: bool,

@@ -1,4 +1,5 @@
--- A file that was read in sequence, with lists that have just its records and keys that differ, and what was read of it.
+-- A file that was read in sequence, with lists that have just its records and keys that differ, and what was read of
+-- it.
 use Rattle.std.proofs.Common.{◌≡◌, ℕ, ◌+◌, ◌-◌, ◌*◌, ◌≤◌, None, Option, List, length, sym, ◌∙◌, ap, subst, arith}
 use Rattle.std.proofs.lemmas.Result.{err_from_is_err_and}
 use Rattle.tdb_disk.specs.Count.{RoseUpTo}
