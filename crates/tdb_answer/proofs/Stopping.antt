@@ -41,7 +41,7 @@ use Rattle.tdb_open.specs.declared.halt.Fault.TheVariants as F
 use Rattle.tdb_answer.specs.declared.ending.Unprinted.TheVariants as Rest
 use Rattle.tdb_world.specs.Courses.Scene.{Scene, scene, IsStateAt}
 use Rattle.tdb_answer.specs.Playing.{PlaysEnd, UnlessBroken, OnBroken, end_of, run_answer}
-use Rattle.tdb_answer.specs.Stops.{LeavesOnTheWay, StopsTold, StopsOver, OnlyUnfinished, WroteOf, WroteWhole}
+use Rattle.tdb_answer.specs.Stops.{CameBy, LeavesOnTheWay, StopsTold, StopsOver, OnlyUnfinished, WroteOf, WroteWhole}
 use Rattle.tdb_answer.proofs.Coming.{front_either, text_more, unless_end, unless_map, unless_sound}
 use Rattle.tdb_answer.proofs.Calling.{calls_none, calls_of, calls_on, calls_over}
 
@@ -67,6 +67,7 @@ module _ (disk_tells told : Bool) where
     whole = λ is out. sym (append-nil start.written);
     front = λ out. (0, omega arith, sym (append-nil start.written));
     all = λ is heard state at. (state, at, (refl, refl));
+    came = λ heard state at. (state, whole_comes (form_at start.over.world) [] state state [] (refl, refl));
     left = λ heard state at. (state, at, whole_comes (form_at start.over.world) [] state state [] (refl, refl));
     calls = λ heard state at. calls_none start;
     stops = λ heard state is safe calm. record {
@@ -100,6 +101,12 @@ module _ (disk_tells told : Bool) where
           q.1,
           joined (λ ps ls. Course f state ps ls q.0) (course_join f (law_plays plays) (law_plays more) state p.0 q.0 (law_lines first.lines) (law_lines next.lines) p.2 q.2),
         )
+
+    came_both : IsTrue disk_tells → (state : State) → IsStateAt start state → CameBy f state (plays ++ more) both
+    came_both heard state at =
+        let p = first.all refl heard state at in
+        let q = subst (λ g. CameBy g p.0 more next.lines) same (next.came heard p.0 p.1) in
+        (q.0, joined (λ ps ls. ComesTo f state ps ls q.0) (comes_after f (law_plays plays) (law_plays more) state p.0 q.0 (law_lines first.lines) (law_lines next.lines) p.2 q.1))
 
     left_both : IsTrue disk_tells → (state : State) → IsStateAt start state
         → UnlessBroken answer ((after : State) × IsStateAt new after × ComesTo f state (law_plays (plays ++ more)) (law_lines both) after)
@@ -141,6 +148,7 @@ module _ (disk_tells told : Bool) where
       whole = λ is out. next.whole is out ∙ ap (λ b. b ++ report_text next.lines) (first.whole refl out) ∙ append_assoc start.written (report_text first.lines) (report_text next.lines) ∙ ap (λ t. start.written ++ t) (sym (text_more first.lines next.lines));
       front = λ out. subst (λ t. WroteFront start.written t new.written) (sym (text_more first.lines next.lines)) (front_after start.written mid.written new.written (report_text first.lines) (report_text next.lines) (first.whole refl out) (next.front out));
       all = all_both;
+      came = came_both;
       left = left_both;
       calls = λ heard state at. (let p = first.all refl heard state at in calls_on start mid new answer first.lines next.lines (first.calls heard state at) (next.calls heard p.0 p.1));
       stops = stops_both;
@@ -153,6 +161,9 @@ module _ (disk_tells told : Bool) where
     whole = t.whole;
     front = t.front;
     all = λ is. absurd (other is);
+    came = λ heard state at.
+        (let q = t.came heard state at in
+        (q.0, subst (λ ps. ComesTo (form_at start.over.world) state ps (law_lines t.lines) q.0) (sym (map-append law_play plays rest)) (comes_more (form_at start.over.world) (law_plays plays) (law_plays rest) state q.0 (law_lines t.lines) q.1)));
     left = λ heard state at.
         unless_map answer
         (λ q. (q.0, q.1, subst (λ ps. ComesTo (form_at start.over.world) state ps (law_lines t.lines) q.0) (sym (map-append law_play plays rest)) (comes_more (form_at start.over.world) (law_plays plays) (law_plays rest) state q.0 (law_lines t.lines) q.2)))
@@ -188,7 +199,13 @@ module _ (disk_tells told : Bool) (a b : OverFile) (first lines : List Line) (em
   abbrev Told : Result (Result (Unit {0}) LogRefusal) RunFault → State → List Line → Type 0
   Told p s ls = Comes p (HasState b) (λ v. RunsAsTold v (Whole-course s) (So-far s)) (So-far s) (So-far s) (law_lines ls)
 
-  -- what the lines tell from a state on
+  -- what the lines tell from a state on, whatever broke the plays off, and to which state unless the disk failed
+  far : (p : Result (Result (Unit {0}) LogRefusal) RunFault) (s : State) → Told p s lines → CameBy (form_at a.world) s plays lines
+  far (Ok (Ok v)) s C = (C.0, whole_comes (form_at a.world) (law_plays plays) s C.0 (law_lines lines) C.2)
+  far (Ok (Err refusal)) s C = (C.0, C.2)
+  far (Err Run.Memory) s C = (C.0, C.2)
+  far (Err Run.Io) s C = C
+
   came : (p : Result (Result (Unit {0}) LogRefusal) RunFault) (s : State) → Told p s lines → UnlessIo p ((after : State) × HasState b after × So-far s (law_lines lines) after)
   came (Ok (Ok v)) s C = (C.0, C.1, whole_comes (form_at a.world) (law_plays plays) s C.0 (law_lines lines) C.2)
   came (Ok (Err refusal)) s C = C
@@ -203,6 +220,7 @@ module _ (disk_tells told : Bool) (a b : OverFile) (first lines : List Line) (em
     whole = λ is. subst (λ r. OnOk r (IsTrue told → now ≡ before ++ report_text lines)) (all_done played untold is).1 all;
     front = front_either (IsTrue told) before (report_text lines) now untold all front;
     all = λ is heard s at. subst (λ p. Told p s lines) (all_done played untold is).0 (from heard s at);
+    came = λ heard s at. far played s (from heard s at);
     left = λ heard s at. unless_end _ played untold (came played s (from heard s at));
     calls = λ heard s at. subst (ToldCalls (moment_of a []) (moment_of b []) (run_answer (end_of played untold))) alone (calls_of a b first lines tells.added played untold (tells.calls heard s at));
     stops = λ heard state is safe calm. (let s = led heard state lines is (ap (λ ls. ls ++ lines) (sym empty)) safe calm in record { stops = s.stops; stays = s.stays; left = unless_end _ played untold s.left });
@@ -229,6 +247,7 @@ module _ (disk_tells told : Bool) (old new : Scene) (plays : List Play) (answer 
     lines = t.lines;
     printed = printed;
     whole = whole;
+    came = t.came;
     left = λ so heard state at.
         (let none = unbroken so heard state at in
         let c = unless_sound answer none (t.left heard state at) in (c.0, c.2, inl (unless_sound answer none (read c.0 c.1))));

@@ -75,6 +75,7 @@ turns_of w plays h now disk_tells told done sound before after state just A hear
   over = subst (λ i. IsOver (form_at w) i state) (sym (own_shut (form_at w) (seen h) A)) just.over;
   printed = S.printed;
   whole = S.whole;
+  came = S.came heard state just.of_world;
   left = λ so. S.left so heard state just.of_world;
   calls = told_opened w h now sound S.lines state just A (S.calls heard state just.of_world);
   stops = λ quiet again calm. S.stops heard state just.of_world (accepted_safe (form_at w) h A quiet) calm;
@@ -154,6 +155,7 @@ unopened_stops options plays old now told done sound written can safe kept =
       over = over;
       printed = λ out. ([], tt, 0, sym (append-nil written));
       whole = λ is out. ([], tt, sym (append-nil written));
+      came = (fresh f options r, course_whole f [] (law_plays plays) (fresh f options r) (fresh f options r) [] (refl, refl));
       left = λ so. (fresh f options r, course_whole f [] (law_plays plays) (fresh f options r) (fresh f options r) [] (refl, refl), kept_left f old now (fresh f options r) can.opens.accepted over (kept so));
       calls = inl refl;
       stops = λ quiet again calm. record {
@@ -184,6 +186,7 @@ opened_stops options plays old mid now told done sound ended calm before after t
       over = over;
       printed = p.printed;
       whole = λ is. p.whole (to is);
+      came = p.came;
       left = λ so. p.left (still so);
       calls = since_when options old now calm sound p.lines still (told_since options old mid now calm p.lines A opened.reads p.calls);
       stops = λ quiet again calm.
@@ -209,7 +212,7 @@ module _ (options : Options) (plays : List Play) (held given : Option History) (
   stops_when less calm before after to still S old is opens =
       let s = S old is opens in
       let p = s.2 in
-      (s.0, s.1, record { lines = p.lines; start = p.start; loaded = p.loaded; over = p.over; printed = p.printed; whole = λ so. p.whole (to so); left = λ so. p.left (still so); calls = since_when options old s.0 sound calm p.lines still p.calls; stops = p.stops })
+      (s.0, s.1, record { lines = p.lines; start = p.start; loaded = p.loaded; over = p.over; printed = p.printed; whole = λ so. p.whole (to so); came = p.came; left = λ so. p.left (still so); calls = since_when options old s.0 sound calm p.lines still p.calls; stops = p.stops })
 
 -- where no play was taken
 pub unscripted_stops : (input : Input) (options : Options) (held : Option History) (told : Bool) (done sound : Type 0) (written : List ℕ) → StopsScripted input options held held told done sound written written

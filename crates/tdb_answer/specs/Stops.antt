@@ -44,17 +44,22 @@ pub record LeavesOnTheWay (old new : Scene) (answer : PlaysEnd) (state : State) 
   pub stays : StaysTold (form_at old.over.world) old.over.history new.over.history state (law_lines lines)
   pub left : UnlessBroken answer ((after : State) × IsStateAt new after × Leads (form_at old.over.world) state (law_lines lines) after × IsSafe (form_at old.over.world) new.over.history)
 
--- Plays ended so between two moments, and their lines were written, or a front of the text of these. Unless the disk
--- failed these lines tell the plays, as far as they came, from each state of the first moment to one of the other, and
--- all plays where these are done, and the lines tell the calls by which that was. Where a stop at the first moment
--- leaves only what opens to the file's map, and the lines are transacted, stops leave what opens on the way, and what
--- is told stays.
+-- Lines tell these plays from a state on, as far as they came.
+abbrev pub CameBy : Form → State → List Play → List Line → Type 0
+CameBy f start plays lines = (last : State) × ComesTo f start (law_plays plays) (law_lines lines) last
+
+-- Plays ended so between two moments, and their lines were written, or a front of the text of these. From each state of
+-- the first moment these lines tell the plays, as far as they came, whatever broke them off; unless the disk failed they
+-- lead to a state of the other moment, and all plays do where these are done. The lines tell the calls by which that
+-- was. Where a stop at the first moment leaves only what opens to the file's map, and the lines are transacted, stops
+-- leave what opens on the way, and what is told stays.
 pub record StopsTold (disk_tells output_tells : Bool) (old new : Scene) (plays : List Play) (answer : PlaysEnd) : Type 0 where
   pub lines : List Line
   pub whole : answer ≡ Ok (Ok tt) → IsTrue output_tells → new.written ≡ old.written ++ report_text lines
   pub front : IsTrue output_tells → WroteFront old.written (report_text lines) new.written
   pub all : answer ≡ Ok (Ok tt) → IsTrue disk_tells → (state : State) → IsStateAt old state
       → (after : State) × IsStateAt new after × Course (form_at old.over.world) state (law_plays plays) (law_lines lines) after
+  pub came : IsTrue disk_tells → (state : State) → IsStateAt old state → CameBy (form_at old.over.world) state plays lines
   pub left : IsTrue disk_tells → (state : State) → IsStateAt old state
       → UnlessBroken answer ((after : State) × IsStateAt new after × ComesTo (form_at old.over.world) state (law_plays plays) (law_lines lines) after)
   pub calls : IsTrue disk_tells → (state : State) → IsStateAt old state → ToldCalls (moment_of old.over []) (moment_of new.over []) (run_answer answer) lines
@@ -79,13 +84,14 @@ abbrev pub ComesToImage : Form → State → List Play → List Line → List �
 ComesToImage f start plays lines img = (new : State) × ComesTo f start (law_plays plays) (law_lines lines) new × IsLeftAs f img new
 
 -- All plays in a world, with the lines of unfinished commands behind those of the plays: so it is of stops from each
--- state of the world on. Where the plays are done, all of the lines were written, and no other line of a play. Where
--- the disk is sound the lines tell these plays as far as they came, to a state as whose file what is left is read. They
--- tell the calls that were made, between two lengths of the file.
+-- state of the world on. Where the plays are done, all of the lines were written, and no other line of a play. The
+-- lines tell these plays as far as they came; where the disk is sound, to a state as whose file what is left is read.
+-- They tell the calls that were made, between two lengths of the file.
 pub record StopsOver (w : Whole) (disk_tells output_tells : Bool) (plays : List Play) (done sound : Type 0) (old now : History) (from to : ℕ) (before after : List ℕ) : Type 0 where
   pub lines : List Line
   pub printed : IsTrue output_tells → WroteOf lines before after
   pub whole : done → IsTrue output_tells → WroteWhole lines before after
+  pub came : IsTrue disk_tells → (state : State) → IsStateOf w old state → CameBy (form_at w) state plays lines
   pub left : sound → IsTrue disk_tells → (state : State) → IsStateOf w old state → ComesToImage (form_at w) state plays lines (seen now)
   pub calls : IsTrue disk_tells → (state : State) → IsStateOf w old state → CallsFrom w old now from to sound lines
   pub stops : IsTrue disk_tells → (state : State) → IsStateOf w old state → IsSafe (form_at w) old → IsTransacted (form_at w) state (law_lines lines)
@@ -93,7 +99,7 @@ pub record StopsOver (w : Whole) (disk_tells output_tells : Bool) (plays : List 
 
 -- Lines of a report, from a world just loaded over the image that the file was read as at first, were printed, or a
 -- front of them; and where the run is done, all of them, and behind them nothing but the lines of unfinished commands.
--- Where the disk is sound they tell these plays as far as they came, to a state as whose file what is left is read.
+-- They tell these plays as far as they came; where the disk is sound, to a state as whose file what is left is read.
 -- They tell the calls that were made on the file, of which each turn ends with Full exactly where there is no room.
 -- Where in no state that they pass an opener is in the middle of a change outside a transaction, and all of the file
 -- was on the medium at first, every stop since then leaves a file that opens to the map and the sequence number of a
@@ -106,6 +112,7 @@ pub record StopsOfTurns (f : Form) (options : Options) (plays : List Play) (old 
   pub over : IsOver f (opened_bytes (seen old)) start
   pub printed : IsTrue told → WroteOf lines before after
   pub whole : done → IsTrue told → WroteWhole lines before after
+  pub came : CameBy f start plays lines
   pub left : sound → ComesToImage f start plays lines (seen now)
   pub calls : TellsCallsSince options old now sound lines
   pub stops : StopsSince f old now start (law_lines lines)
