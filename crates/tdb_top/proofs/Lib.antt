@@ -1,4 +1,5 @@
 pub mod Writing
+pub mod Answering
 pub mod Whole
 pub mod StopsServing
 pub mod SessionsStopped

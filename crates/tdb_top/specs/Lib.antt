@@ -1,3 +1,4 @@
 pub mod SessionStops
 pub mod Outside
+pub mod AnsweredWords
 pub mod Promise

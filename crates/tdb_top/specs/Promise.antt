@@ -2,9 +2,7 @@
 use Rattle.std.specs.Prelude.{ℕ, List, Bool, IsTrue, String}
 use Rattle.std.specs.Global.{Global}
 use Rattle.tdb_log.specs.Logs.{Logged}
-use Rattle.tdb_answer.specs.Input.{input_by}
-use Rattle.tdb_answer.specs.Output.{output_by}
-use Rattle.tdb_top.specs.Outside.{Outside}
+use Rattle.tdb_top.specs.Outside.{Outside, input_between, output_between}
 use Rattle.tdb_answer.specs.Run.{Run, run_by, Answered, RefusesExactly, LeavesFiles, LogsAreTold, Accounted}
 use Rattle.tdb_top.specs.SessionStops.{SessionsStopSafely}
 use Rattle.tdb_answer.specs.Stops.{TurnsStopSafely}
@@ -35,8 +33,7 @@ pub record Promise (tells : Bool) (run : Run) (logs later : List Logged) : Type 
 -- what they have or don't
 abbrev pub run_between : Bool → Bool → List (String Global) → ℕ → Outside → Outside → Run
 run_between input_tells output_tells words status before after =
-    run_by words before.held after.held before.faults after.faults (input_by input_tells before.left before.read_faults after.read_faults)
-    (output_by output_tells before.written after.written before.write_faults after.write_faults) status
+    run_by words before.held after.held before.faults after.faults (input_between input_tells before after) (output_between output_tells before after) status
 
 -- a run led from one moment to another as it is promised
 abbrev pub RanAsPromised : Bool → Bool → Bool → List (String Global) → ℕ → Outside → Outside → Type 0

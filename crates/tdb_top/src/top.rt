@@ -1,29 +1,17 @@
 // The top call: it reads the words, answers them over the files and prints the text and the line of that.
 
-ghost use Rattle.std.specs.Prelude.{◌≡◌, ◌⊎◌, ℕ, List, None, Some, false, map, string_bytes, IsTrue};
-ghost use Rattle.tdb_cmdline.specs.declared.ask.Task.TheVariants.{Turns as TurnsIs, Session as SessionIs};
-ghost use Rattle.tdb_answer.specs.declared.ending.Ending.TheVariants.{Replied, Usage, NoMemory};
-ghost use Rattle.tdb_answer.specs.declared.ending.Reply.TheVariants.{Played};
-ghost use Rattle.tdb_commands.specs.declared.options.Options.{Options};
+ghost use Rattle.std.specs.Prelude.{◌≡◌, ℕ, List, false, map, string_bytes};
 ghost use Rattle.tdb_cmdline.specs.Ask.{ask_of};
-ghost use Rattle.tdb_disk.specs.Count.{HasCause, Rose};
 ghost use Rattle.tdb_answer.specs.declared.ending.Ending.{Ending as EndingIs};
-ghost use Rattle.tdb_answer.specs.Ending.{CountedAsked, PrintedFor};
+ghost use Rattle.tdb_answer.specs.Ending.{PrintedFor};
+ghost use Rattle.tdb_answer.specs.Looks.{ending_of};
 ghost use Rattle.tdb_answer.specs.Output.{output_by};
-ghost use Rattle.tdb_answer.specs.Commands.Restore.{HeardBy, of_input};
-ghost use Rattle.tdb_answer.specs.Commands.Session.{SessionHeld};
-ghost use Rattle.tdb_answer.specs.Commands.Turns.{AllPlayed};
-ghost use Rattle.tdb_answer.specs.Heard.{AskHeard};
-ghost use Rattle.tdb_answer.specs.Input.{input_by};
-ghost use Rattle.tdb_answer.specs.Left.{Leaving};
-ghost use Rattle.tdb_answer.specs.Looks.{ending_of, Began};
-ghost use Rattle.tdb_answer.specs.Printed.{TextBefore, ask_tells, Finishes};
+ghost use Rattle.tdb_answer.specs.Printed.{Finishes};
 ghost use Rattle.tdb_answer.specs.Reads.{ask_reads};
+ghost use Rattle.tdb_answer.specs.Takes.{MayTake, ask_takes};
+ghost use Rattle.tdb_top.specs.AnsweredWords.{AnsweredWords};
 ghost use Rattle.tdb_top.specs.Outside.{outside};
 ghost use Rattle.tdb_top.specs.Promise.{RanAsPromised};
-ghost use Rattle.tdb_answer.specs.Run.{MayEnd};
-ghost use Rattle.tdb_answer.specs.Stops.{StopsScripted};
-ghost use Rattle.tdb_answer.specs.Takes.{MayTake, ask_takes};
 
 use std::alloc::Global;
 use tdb_answer::{Ending, Status, Unprinted, answer_ask, print};
@@ -43,23 +31,11 @@ fn answer<F: Files, S: Source, K: Sink, L: Logs>(
 ) -> Result<Ending, Unprinted>
     requires free { (name : List ℕ) → F.is_taken files.old name ≡ false }
     requires take { MayTake F.may_take (ask_takes (ask_of (map string_bytes words.now))) }
-    ensures cause { IsTrue F.D.tells → MayEnd (ask_of (map string_bytes words.now)) (F.held files.old) (input_by S.tells (S.left input.old) (S.faults input.old) (S.faults input.new)) (F.faults files.old) (F.faults files.new) (ending_of result) }
-    ensures left { IsTrue F.D.tells → Leaving (input_by S.tells (S.left input.old) (S.faults input.old) (S.faults input.new)) (ask_of (map string_bytes words.now)) (F.held files.old) (ending_of result) (F.held files.new) }
+    ensures answered { AnsweredWords F.D.tells S.tells K.tells (ask_of (map string_bytes words.now))
+        (outside F.Files S.Source K.Sink L.Logs files.old input.old output.old logs.old)
+        (outside F.Files S.Source K.Sink L.Logs files.new input.new output.new logs.new) result }
     ensures given_back { (name : List ℕ) → F.is_taken files.new name ≡ false }
-    ensures counted { CountedAsked F.D.tells (ask_of (map string_bytes words.now)) (F.faults files.old) (F.faults files.new) (ending_of result) }
-    ensures began { IsTrue (ask_tells (ask_of (map string_bytes words.now)) F.D.tells K.tells) → Began (TextBefore (ask_of (map string_bytes words.now)) (F.held files.old)) (K.written output.old) (K.written output.new) result }
-    ensures output_cause { HasCause (K.faults output.old) (K.faults output.new) result }
-    ensures heard { HeardBy (S.faults input.old) (S.faults input.new) (ending_of result) }
-    ensures unread { ask_reads (ask_of (map string_bytes words.now)) ≡ false → (input.new ≡ input.old) × (of_input (ending_of result) ≡ false) }
-    ensures played { (options : Options) (name : List ℕ) → ask_of (map string_bytes words.now) ≡ Some (record { file = name; task = TurnsIs options }) → IsTrue F.D.tells → result ≡ Ok (Replied Played)
-        → AllPlayed options (input_by S.tells (S.left input.old) (S.faults input.old) (S.faults input.new)) (output_by K.tells (K.written output.old) (K.written output.new) (K.faults output.old) (K.faults output.new)) (L.logs logs.old) (L.logs logs.new) (F.held files.old name) (F.held files.new name) }
-    ensures stops { (options : Options) (name : List ℕ) → ask_of (map string_bytes words.now) ≡ Some (record { file = name; task = TurnsIs options }) → IsTrue F.D.tells
-        → StopsScripted (input_by S.tells (S.left input.old) (S.faults input.old) (S.faults input.new)) options (F.held files.old name) (F.held files.new name) K.tells (result ≡ Ok (Replied Played)) (Rose (F.faults files.old) (F.faults files.new) → ⊥) (K.written output.old) (K.written output.new) }
-    ensures served { (limit : ℕ) (name : List ℕ) → ask_of (map string_bytes words.now) ≡ Some (record { file = name; task = SessionIs limit }) → IsTrue F.D.tells
-        → SessionHeld limit (input_by S.tells (S.left input.old) (S.faults input.old) (S.faults input.new)) (F.held files.old name) (F.held files.new name) K.tells (K.written output.old) (K.written output.new) (L.logs logs.old) (L.logs logs.new) result }
-    ensures usage { ending_of result ≡ Usage → ask_of (map string_bytes words.now) ≡ None }
-    ensures usage_exact { ask_of (map string_bytes words.now) ≡ None → (ending_of result ≡ Usage) ⊎ (ending_of result ≡ NoMemory) }
-    ensures told { IsTrue F.D.tells → AskHeard (input_by S.tells (S.left input.old) (S.faults input.old) (S.faults input.new)) (ask_of (map string_bytes words.now)) (F.held files.old) (F.held files.new) (ending_of result) (L.logs logs.old) (L.logs logs.new) }
+    ensures input_untouched { ask_reads (ask_of (map string_bytes words.now)) ≡ false → input.new ≡ input.old }
 {
     match Ask::of(alloc, words) {
         Ok(Some(ask)) => answer_ask(alloc, &ask, files, input, output, logs),
