@@ -1,11 +1,11 @@
 -- Plays that are taken one after the other, and told as they are taken.
 use Rattle.std.proofs.Common.{◌≡◌, ℕ, ◌+◌, ◌-◌, ◌<◌, List, [], ◌∷◌, ◌++◌, length, length-append, take, drop, take-append-drop, slice_index_or, Result, Ok, Err, refl, sym, ◌∙◌, ap, subst, arith}
-use Rattle.std.specs.Prelude.{Bool, IsTrue, OnOk, OnErr, false}
+use Rattle.std.specs.Prelude.{Bool, IsTrue, IsErrOf, OnOk, OnErr, false}
 use Rattle.std.proofs.lemmas.List.{append_assoc, append-nil, map-append, drop_more, drop-drop}
 use Rattle.std.proofs.lemmas.List.Concat.{flat_map-cons}
 use Rattle.std.proofs.lemmas.Grind.{flat_map-append}
-use Rattle.std.proofs.lemmas.List.{take-append-le}
-use Rattle.std.proofs.Math.Seq.{take-add}
+use Rattle.std.proofs.lemmas.List.{take-append-le, take_all}
+use Rattle.std.proofs.Math.Seq.{take-add, take-append-add}
 use Rattle.tdb_disk.specs.Count.{Rose}
 use Rattle.tdb_space.specs.Form.{Form, form_in}
 use Rattle.tdb_backup.specs.Dump.{WroteFront}
@@ -37,7 +37,7 @@ use Rattle.tdb_tool.proofs.Telling.{front_all, front_after}
 use Rattle.tdb_answer.specs.declared.ending.Unprinted.TheVariants as Rest
 use Rattle.tdb_open.specs.declared.halt.Fault.TheVariants as F
 use Rattle.tdb_world.specs.Courses.Scene.{Scene, scene, IsStateAt}
-use Rattle.tdb_answer.specs.Playing.{PlaysEnd, UnlessBroken, OnBroken, TellsAll, TellsFront, RunsTo, broke_off, Ran, EndTold, end_of}
+use Rattle.tdb_answer.specs.Playing.{PlaysEnd, UnlessBroken, OnBroken, TellsAll, TellsFront, RunsTo, broke_off, Ran, EndTold, WroteLines, end_of}
 use Rattle.tdb_tool.specs.Serving.{HeardSo}
 use Rattle.tdb_tool.proofs.Hearing.{heard_after}
 use Rattle.tdb_answer.proofs.HeardPlays.{heard_end}
@@ -63,6 +63,23 @@ text_more lines more = flat_map-append printed_line lines more
 pub front_either : (T : Type 0) (before text now : List ℕ) (r : Result (Unit {0}) WriteRefusal) → OnOk r (T → now ≡ before ++ text) → OnErr r (T → WroteFront before text now) → T → WroteFront before text now
 front_either T before text now (Ok v) all front told = front_all before text now (all told)
 front_either T before text now (Err e) all front told = front told
+
+-- what holds unless the output failed is moved
+pub told_map : {A B : Type 0} (answer : PlaysEnd) → (A → B) → OnOk answer A → OnOk answer B
+told_map (Ok v) h a = h a
+told_map (Err e) h a = tt
+
+-- whole lines, behind others that were written
+pub lines_after : (before mid now : List ℕ) (lines more : List Line) → mid ≡ before ++ report_text lines → WroteLines more mid now → WroteLines (lines ++ more) before now
+lines_after before mid now lines more first (k, next) = (
+  length lines + k,
+  next ∙ ap (λ b. b ++ report_text (take k more)) first ∙ append_assoc before (report_text lines) (report_text (take k more)) ∙ ap (λ t. before ++ t) (sym (text_more lines (take k more)))
+      ∙ ap (λ ls. before ++ report_text ls) (sym (take-append-add lines more k)),
+)
+
+-- all lines are whole lines
+pub all_lines : (before now : List ℕ) (lines : List Line) → now ≡ before ++ report_text lines → WroteLines lines before now
+all_lines before now lines all = (length lines, all ∙ ap (λ ls. before ++ report_text ls) (sym (take_all (length lines) lines (omega arith))))
 
 -- a front of the text of a line, behind that of the lines before it
 pub told_front : (before mid now : List ℕ) (lines : List Line) (i : ℕ) (line : Line) → i < length lines → line ≡ slice_index_or lines i line → mid ≡ before ++ report_text (take i lines) → WroteFront mid (printed_line line) now → WroteFront before (report_text lines) now
@@ -235,6 +252,22 @@ on_end P (Err Run.Io) (Ok w) p = p
 on_end P (Err Run.Io) (Err Untold.Memory) p = p
 on_end P (Err Run.Io) (Err Untold.Failed) p = p
 
+-- whole lines are told unless the output failed
+pub cut_of : (T : Type 0) (before now : List ℕ) (lines : List Line) (played : Result (Result (Unit {0}) LogRefusal) RunFault) (untold : Result (Unit {0}) WriteRefusal)
+    → OnOk untold (T → now ≡ before ++ report_text lines) → (IsErrOf untold Untold.Memory → T → WroteLines lines before now) → OnOk (end_of played untold) (T → WroteLines lines before now)
+cut_of T before now lines (Ok (Ok v)) (Ok w) all short = λ told. all_lines before now lines (all told)
+cut_of T before now lines (Ok (Ok v)) (Err Untold.Memory) all short = short refl
+cut_of T before now lines (Ok (Ok v)) (Err Untold.Failed) all short = tt
+cut_of T before now lines (Ok (Err refusal)) (Ok w) all short = λ told. all_lines before now lines (all told)
+cut_of T before now lines (Ok (Err refusal)) (Err Untold.Memory) all short = short refl
+cut_of T before now lines (Ok (Err refusal)) (Err Untold.Failed) all short = tt
+cut_of T before now lines (Err Run.Memory) (Ok w) all short = λ told. all_lines before now lines (all told)
+cut_of T before now lines (Err Run.Memory) (Err Untold.Memory) all short = short refl
+cut_of T before now lines (Err Run.Memory) (Err Untold.Failed) all short = tt
+cut_of T before now lines (Err Run.Io) (Ok w) all short = λ told. all_lines before now lines (all told)
+cut_of T before now lines (Err Run.Io) (Err Untold.Memory) all short = short refl
+cut_of T before now lines (Err Run.Io) (Err Untold.Failed) all short = tt
+
 module _ (f : Form) (told : Bool) (plays : List Play) (old : State) (IsLeft : State → Type 0) (lines : List Line) (before now : List ℕ) (logs later : List Logged) where
   abbrev Part : List LawLine → State → Type 0
   Part ls s = ComesTo f old (law_plays plays) ls s
@@ -305,12 +338,13 @@ module _ (disk_tells told : Bool) (a b : OverFile) (first lines : List Line) (em
 module _ (w : Whole) (told : Bool) (before : List ℕ) where
   pub end_told : (now : List ℕ) (first lines : List Line) → first ≡ [] → (more : List Line) × (lines ≡ first ++ more) × IsEnd w more
       → (untold : Result (Unit {0}) WriteRefusal) → OnOk untold (IsTrue told → now ≡ before ++ report_text lines) → OnErr untold (IsTrue told → WroteFront before (report_text lines) now)
-      → EndTold w told before now (end_of (Ok (Ok tt)) untold)
-  end_told now first lines empty made untold all front = record {
+      → (IsErrOf untold Untold.Memory → IsTrue told → WroteLines lines before now) → EndTold w told before now (end_of (Ok (Ok tt)) untold)
+  end_told now first lines empty made untold all front short = record {
     lines = lines;
     is_end = subst (IsEnd w) (sym (made.1 ∙ ap (λ f. f ++ made.0) empty)) made.2;
     whole = whole untold all;
     front = front_either (IsTrue told) before (report_text lines) now untold all front;
+    cut = cut_of (IsTrue told) before now lines (Ok (Ok tt)) untold all short;
   }
     where
       whole : (r : Result (Unit {0}) WriteRefusal) → OnOk r (IsTrue told → now ≡ before ++ report_text lines) → end_of (Ok (Ok tt)) r ≡ Ok (Ok tt) → IsTrue told → now ≡ before ++ report_text lines
@@ -325,4 +359,5 @@ module _ (w : Whole) (told : Bool) (before : List ℕ) where
     is_end = end;
     whole = λ is. (let wrong : Ok (Err F.Memory) ≡ Ok (Ok tt) = is in absurd (cc));
     front = λ heard. (0, omega arith, sym (append-nil before));
+    cut = λ heard. (0, sym (append-nil before));
   }

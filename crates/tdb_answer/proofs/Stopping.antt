@@ -1,6 +1,6 @@
 -- What stops leave while plays are taken and told, from play to play.
 use Rattle.std.proofs.Common.{◌≡◌, ℕ, zero, suc, List, [], ◌++◌, take, Result, Ok, Err, refl, sym, ◌∙◌, ap, subst, inl, inr, arith}
-use Rattle.std.specs.Prelude.{Bool, IsTrue, OnOk, OnErr}
+use Rattle.std.specs.Prelude.{Bool, IsTrue, OnOk, OnErr, IsErrOf}
 use Rattle.std.proofs.lemmas.List.{append_assoc, append-nil, map-append}
 use Rattle.tdb_disk.specs.History.{History, seen}
 use Rattle.tdb_disk.proofs.Runs.{leaves_start}
@@ -38,11 +38,12 @@ use Rattle.tdb_log.specs.Logs.{Logged}
 use Rattle.tdb_log.specs.declared.log.LogRefusal.{LogRefusal}
 use Rattle.tdb_open.specs.Opening.{log_fault}
 use Rattle.tdb_open.specs.declared.halt.Fault.TheVariants as F
+use Rattle.tdb_answer.specs.declared.ending.Unprinted.{Unprinted}
 use Rattle.tdb_answer.specs.declared.ending.Unprinted.TheVariants as Rest
 use Rattle.tdb_world.specs.Courses.Scene.{Scene, scene, IsStateAt}
-use Rattle.tdb_answer.specs.Playing.{PlaysEnd, UnlessBroken, OnBroken, end_of, run_answer}
-use Rattle.tdb_answer.specs.Stops.{CameBy, LeavesOnTheWay, StopsTold, StopsOver, OnlyUnfinished, WroteOf, WroteWhole}
-use Rattle.tdb_answer.proofs.Coming.{front_either, text_more, unless_end, unless_map, unless_sound}
+use Rattle.tdb_answer.specs.Playing.{PlaysEnd, UnlessBroken, OnBroken, end_of, run_answer, IsUnbroken, WroteLines}
+use Rattle.tdb_answer.specs.Stops.{CameBy, LeavesOnTheWay, StopsTold, StopsOver, OnlyUnfinished, WroteOf, WroteWhole, TellsAllLines, WroteLinesOf}
+use Rattle.tdb_answer.proofs.Coming.{front_either, text_more, unless_end, unless_map, unless_sound, told_map, lines_after, cut_of}
 use Rattle.tdb_answer.proofs.Calling.{calls_none, calls_of, calls_on, calls_over}
 
 -- a report that goes on in another one is calm where both are
@@ -65,6 +66,7 @@ module _ (disk_tells told : Bool) where
   stops_none start = record {
     lines = [];
     whole = λ is out. sym (append-nil start.written);
+    cut = λ out. (0, sym (append-nil start.written));
     front = λ out. (0, omega arith, sym (append-nil start.written));
     all = λ is heard state at. (state, at, (refl, refl));
     came = λ heard state at. (state, whole_comes (form_at start.over.world) [] state state [] (refl, refl));
@@ -145,8 +147,9 @@ module _ (disk_tells told : Bool) where
     pub stops_on : StopsTold disk_tells told start new (plays ++ more) answer
     stops_on = record {
       lines = both;
-      whole = λ is out. next.whole is out ∙ ap (λ b. b ++ report_text next.lines) (first.whole refl out) ∙ append_assoc start.written (report_text first.lines) (report_text next.lines) ∙ ap (λ t. start.written ++ t) (sym (text_more first.lines next.lines));
-      front = λ out. subst (λ t. WroteFront start.written t new.written) (sym (text_more first.lines next.lines)) (front_after start.written mid.written new.written (report_text first.lines) (report_text next.lines) (first.whole refl out) (next.front out));
+      whole = λ is out. next.whole is out ∙ ap (λ b. b ++ report_text next.lines) (first.whole (inl refl) out) ∙ append_assoc start.written (report_text first.lines) (report_text next.lines) ∙ ap (λ t. start.written ++ t) (sym (text_more first.lines next.lines));
+      front = λ out. subst (λ t. WroteFront start.written t new.written) (sym (text_more first.lines next.lines)) (front_after start.written mid.written new.written (report_text first.lines) (report_text next.lines) (first.whole (inl refl) out) (next.front out));
+      cut = told_map answer (λ w out. lines_after start.written mid.written new.written first.lines next.lines (first.whole (inl refl) out) (w out)) next.cut;
       all = all_both;
       came = came_both;
       left = left_both;
@@ -159,6 +162,7 @@ module _ (disk_tells told : Bool) where
   stops_more start new plays rest answer other t = record {
     lines = t.lines;
     whole = t.whole;
+    cut = t.cut;
     front = t.front;
     all = λ is. absurd (other is);
     came = λ heard state at.
@@ -172,13 +176,26 @@ module _ (disk_tells told : Bool) where
     stops = t.stops;
   }
 
+-- of lines that weren't told whole it isn't said that all were
+no_memory : TellsAllLines (Ok (Err F.Memory)) → ⊥
+no_memory (inl is) = let wrong : Ok (Err F.Memory) ≡ Ok (Ok tt) = is in cc
+no_memory (inr is) = let wrong : Ok (Err F.Memory) ≡ Ok (Err F.Log) = is in cc
+
+no_device : TellsAllLines (Ok (Err F.Device)) → ⊥
+no_device (inl is) = let wrong : Ok (Err F.Device) ≡ Ok (Ok tt) = is in cc
+no_device (inr is) = let wrong : Ok (Err F.Device) ≡ Ok (Err F.Log) = is in cc
+
+no_failure : (e : Unprinted) → TellsAllLines (Err e) → ⊥
+no_failure e (inl is) = let wrong : Err e ≡ Ok (Ok tt) = is in cc
+no_failure e (inr is) = let wrong : Err e ≡ Ok (Err F.Log) = is in cc
+
 -- all plays are done only where they were taken and told
 all_done : (p : Result (Result (Unit {0}) LogRefusal) RunFault) (u : Result (Unit {0}) WriteRefusal) → end_of p u ≡ Ok (Ok tt) → (p ≡ Ok (Ok tt)) × (u ≡ Ok tt)
 all_done (Ok (Ok v)) (Ok w) is = (refl, refl)
 all_done (Ok (Ok v)) (Err Untold.Memory) is = let wrong : Ok (Err F.Memory) ≡ Ok (Ok tt) = is in absurd (cc)
 all_done (Ok (Ok v)) (Err Untold.Failed) is = let wrong : Err Rest.Report ≡ Ok (Ok tt) = is in absurd (cc)
 all_done (Ok (Err refusal)) (Ok w) is = let wrong : Ok (Err (log_fault refusal)) ≡ Ok (Ok tt) = is in absurd (cc)
-all_done (Ok (Err refusal)) (Err Untold.Memory) is = let wrong : Ok (Err (log_fault refusal)) ≡ Ok (Ok tt) = is in absurd (cc)
+all_done (Ok (Err refusal)) (Err Untold.Memory) is = let wrong : Ok (Err F.Memory) ≡ Ok (Ok tt) = is in absurd (cc)
 all_done (Ok (Err refusal)) (Err Untold.Failed) is = let wrong : Err Rest.Report ≡ Ok (Ok tt) = is in absurd (cc)
 all_done (Err Run.Memory) (Ok w) is = let wrong : Ok (Err F.Memory) ≡ Ok (Ok tt) = is in absurd (cc)
 all_done (Err Run.Memory) (Err Untold.Memory) is = let wrong : Ok (Err F.Memory) ≡ Ok (Ok tt) = is in absurd (cc)
@@ -186,6 +203,18 @@ all_done (Err Run.Memory) (Err Untold.Failed) is = let wrong : Err Rest.Report �
 all_done (Err Run.Io) (Ok w) is = let wrong : Ok (Err F.Device) ≡ Ok (Ok tt) = is in absurd (cc)
 all_done (Err Run.Io) (Err Untold.Memory) is = let wrong : Ok (Err F.Device) ≡ Ok (Ok tt) = is in absurd (cc)
 all_done (Err Run.Io) (Err Untold.Failed) is = let wrong : Err Rest.Fault ≡ Ok (Ok tt) = is in absurd (cc)
+
+-- all lines are told only where they were told whole
+all_told : (p : Result (Result (Unit {0}) LogRefusal) RunFault) (u : Result (Unit {0}) WriteRefusal) → TellsAllLines (end_of p u) → u ≡ Ok tt
+all_told p (Ok w) is = refl
+all_told (Ok (Ok v)) (Err Untold.Memory) is = absurd (no_memory is)
+all_told (Ok (Ok v)) (Err Untold.Failed) is = absurd (no_failure Rest.Report is)
+all_told (Ok (Err refusal)) (Err Untold.Memory) is = absurd (no_memory is)
+all_told (Ok (Err refusal)) (Err Untold.Failed) is = absurd (no_failure Rest.Report is)
+all_told (Err Run.Memory) (Err Untold.Memory) is = absurd (no_memory is)
+all_told (Err Run.Memory) (Err Untold.Failed) is = absurd (no_failure Rest.Report is)
+all_told (Err Run.Io) (Err Untold.Memory) is = absurd (no_device is)
+all_told (Err Run.Io) (Err Untold.Failed) is = absurd (no_failure Rest.Fault is)
 
 -- plays that were taken together, and then told
 module _ (disk_tells told : Bool) (a b : OverFile) (first lines : List Line) (empty : first ≡ []) (plays : List Play) (before now : List ℕ) (logs noted : List Logged)
@@ -214,10 +243,11 @@ module _ (disk_tells told : Bool) (a b : OverFile) (first lines : List Line) (em
 
   pub stops_of : Led disk_tells (moment_of a first) (moment_of b lines) played (λ s v. RunsAsTold v (Whole-course s) (So-far s)) So-far So-far
       → StopsLed disk_tells (moment_of a first) (moment_of b lines) played → OnOk untold (IsTrue told → now ≡ before ++ report_text lines) → OnErr untold (IsTrue told → WroteFront before (report_text lines) now)
-      → StopsTold disk_tells told (scene a before logs) (scene b now noted) plays (end_of played untold)
-  stops_of tells led all front = record {
+      → (IsErrOf untold Untold.Memory → IsTrue told → WroteLines lines before now) → StopsTold disk_tells told (scene a before logs) (scene b now noted) plays (end_of played untold)
+  stops_of tells led all front short = record {
     lines = lines;
-    whole = λ is. subst (λ r. OnOk r (IsTrue told → now ≡ before ++ report_text lines)) (all_done played untold is).1 all;
+    whole = λ is. subst (λ r. OnOk r (IsTrue told → now ≡ before ++ report_text lines)) (all_told played untold is) all;
+    cut = cut_of (IsTrue told) before now lines played untold all short;
     front = front_either (IsTrue told) before (report_text lines) now untold all front;
     all = λ is heard s at. subst (λ p. Told p s lines) (all_done played untold is).0 (from heard s at);
     came = λ heard s at. far played s (from heard s at);
@@ -239,14 +269,16 @@ only_unfinished w o (suc n) lines (inl one) = subst OnlyUnfinished (sym one.2) (
 only_unfinished w o (suc n) lines (inr none) = only_unfinished w (suc o) n lines none.1
 
 -- plays with nothing told behind them, or with the lines of unfinished commands or a front of their text
-module _ (disk_tells told : Bool) (old new : Scene) (plays : List Play) (answer : PlaysEnd) (t : StopsTold disk_tells told old new plays answer) (done sound : Type 0)
+module _ (disk_tells told : Bool) (old new : Scene) (plays : List Play) (answer : PlaysEnd) (t : StopsTold disk_tells told old new plays answer) (sound : Type 0)
     (read : (after : State) → IsStateAt new after → UnlessBroken answer (IsReadAs (form_at old.over.world) (seen new.over.history) after))
     (unbroken : sound → IsTrue disk_tells → (state : State) → IsStateAt old state → OnBroken answer ⊥) where
-  over : (after : List ℕ) → (IsTrue told → WroteOf t.lines old.written after) → (done → IsTrue told → WroteWhole t.lines old.written after) → StopsOver old.over.world disk_tells told plays done sound old.over.history new.over.history old.over.size new.over.size old.written after
-  over after printed whole = record {
+  over : (end : PlaysEnd) (after : List ℕ) → (IsTrue told → WroteOf t.lines old.written after) → (TellsAllLines end → IsTrue told → WroteWhole t.lines old.written after)
+      → OnOk end (IsTrue told → WroteLinesOf t.lines old.written after) → StopsOver old.over.world disk_tells told plays end sound old.over.history new.over.history old.over.size new.over.size old.written after
+  over end after printed whole cut = record {
     lines = t.lines;
     printed = printed;
     whole = whole;
+    cut = cut;
     came = t.came;
     left = λ so heard state at.
         (let none = unbroken so heard state at in
@@ -255,16 +287,31 @@ module _ (disk_tells told : Bool) (old new : Scene) (plays : List Play) (answer 
     stops = λ heard state is safe calm. (let s = t.stops heard state is safe calm in record { opens = s.stops; stays = s.stays });
   }
 
-  pub stops_broken : (done → ⊥) → StopsOver old.over.world disk_tells told plays done sound old.over.history new.over.history old.over.size new.over.size old.written new.written
-  stops_broken not =
-      over new.written (λ out. (let w = t.front out in ([], tt, w.0, w.2 ∙ ap (λ ls. old.written ++ take w.0 (report_text ls)) (sym (append-nil t.lines)))))
-      (λ is out. absurd (not is))
+  pub stops_broken : StopsOver old.over.world disk_tells told plays answer sound old.over.history new.over.history old.over.size new.over.size old.written new.written
+  stops_broken =
+      over answer new.written (λ out. (let w = t.front out in ([], tt, w.0, w.2 ∙ ap (λ ls. old.written ++ take w.0 (report_text ls)) (sym (append-nil t.lines)))))
+      (λ is out. ([], tt, t.whole is out ∙ ap (λ ls. old.written ++ report_text ls) (sym (append-nil t.lines))))
+      (told_map answer (λ w out. ([], tt, subst (λ ls. WroteLines ls old.written new.written) (sym (append-nil t.lines)) (w out))) t.cut)
 
-  pub stops_finished : (more : List Line) (after : List ℕ) → OnlyUnfinished more → answer ≡ Ok (Ok tt) → (done → IsTrue told → after ≡ new.written ++ report_text more) → (IsTrue told → WroteFront new.written (report_text more) after)
-      → StopsOver old.over.world disk_tells told plays done sound old.over.history new.over.history old.over.size new.over.size old.written after
-  stops_finished more after only is all front =
-      over after
-      (λ out. (let w = front_after old.written new.written after (report_text t.lines) (report_text more) (t.whole is out) (front out) in
+  pub stops_finished : (more : List Line) (end : PlaysEnd) (after : List ℕ) → OnlyUnfinished more → answer ≡ Ok (Ok tt) → IsUnbroken end → (end ≡ Ok (Ok tt) → IsTrue told → after ≡ new.written ++ report_text more)
+      → (IsTrue told → WroteFront new.written (report_text more) after) → OnOk end (IsTrue told → WroteLines more new.written after)
+      → StopsOver old.over.world disk_tells told plays end sound old.over.history new.over.history old.over.size new.over.size old.written after
+  stops_finished more end after only is unbroken_end all front cut =
+      over end after
+      (λ out. (let w = front_after old.written new.written after (report_text t.lines) (report_text more) (written out) (front out) in
       (more, only, w.0, w.2 ∙ ap (λ x. old.written ++ take w.0 x) (sym (text_more t.lines more)))))
       (λ so out.
-      (more, only, all so out ∙ ap (λ b. b ++ report_text more) (t.whole is out) ∙ append_assoc old.written (report_text t.lines) (report_text more) ∙ ap (λ x. old.written ++ x) (sym (text_more t.lines more))))
+      (more, only, all (unlogged end unbroken_end so) out ∙ ap (λ b. b ++ report_text more) (written out) ∙ append_assoc old.written (report_text t.lines) (report_text more) ∙ ap (λ x. old.written ++ x) (sym (text_more t.lines more))))
+      (told_map end (λ w out. (more, only, lines_after old.written new.written after t.lines more (written out) (w out))) cut)
+    where
+      written : IsTrue told → new.written ≡ old.written ++ report_text t.lines
+      written out = t.whole (inl is) out
+
+      -- no log failed behind the plays
+      unlogged : (e : PlaysEnd) → IsUnbroken e → TellsAllLines e → e ≡ Ok (Ok tt)
+      unlogged e un (inl done) = done
+      unlogged (Ok (Ok v)) un (inr log) = refl
+      unlogged (Ok (Err F.Device)) un (inr log) = absurd un
+      unlogged (Ok (Err F.Log)) un (inr log) = absurd un
+      unlogged (Ok (Err F.Memory)) un (inr log) = absurd (no_memory (inr log))
+      unlogged (Err e) un (inr log) = absurd (no_failure e (inr log))

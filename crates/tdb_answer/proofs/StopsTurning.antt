@@ -1,6 +1,6 @@
 -- What stops leave of a file that is opened for turns, and of one that isn't.
 use Rattle.std.proofs.Common.{◌≡◌, ℕ, List, [], ◌++◌, length, Option, None, Some, Result, Ok, Err, false, refl, sym, ◌∙◌, ap, subst, inl, inr, arith}
-use Rattle.std.specs.Prelude.{Bool, IsTrue}
+use Rattle.std.specs.Prelude.{Bool, IsTrue, OnOk, OnErr}
 use Rattle.std.proofs.lemmas.List.{append-nil, take_all}
 use Rattle.tdb_disk.specs.History.{History, seen}
 use Rattle.tdb_disk.specs.Stop.{Quiet}
@@ -42,7 +42,7 @@ use Rattle.tdb_answer.specs.Calls.{TellsCallsSince}
 use Rattle.tdb_answer.specs.Playing.{PlaysEnd, end_told}
 use Rattle.tdb_answer.specs.Input.{Input}
 use Rattle.tdb_answer.specs.Safe.{IsLeftAs}
-use Rattle.tdb_answer.specs.Stops.{StopsOver, StopsOfTurns, StopsHeld, StopsScripted, WroteLine}
+use Rattle.tdb_answer.specs.Stops.{StopsOver, StopsOfTurns, StopsHeld, StopsScripted, WroteLine, TellsAllLines, SaysAllLines}
 use Rattle.tdb_tool.proofs.Stops.{accepted_safe}
 use Rattle.tdb_answer.proofs.Calling.{since_when}
 use Rattle.tdb_answer.proofs.Held.{same_held}
@@ -65,21 +65,46 @@ told_since : (options : Options) (old mid now : History) (sound : Type 0) (lines
 told_since options old mid now sound lines A reads (inl none) = inl none
 told_since options old mid now sound lines A reads (inr (opened, is, T)) = inr (opened, is ∙ own_shut (form_of (seen mid)) (seen mid) A ∙ reads, T)
 
+-- the output didn't fail
+unfailed : {A : Type 0} (answer : PlaysEnd) → OnErr answer ⊥ → OnOk answer A → A
+unfailed (Ok v) un a = a
+unfailed (Err e) un a = absurd un
+
 -- all plays in a world that was just loaded over an accepted file
-pub turns_of : (w : Whole) (plays : List Play) (h now : History) (disk_tells told : Bool) (done sound : Type 0) (before after : List ℕ) (state : State) → IsJustLoaded w h state → AcceptWith (form_at w) (seen h) [] → IsTrue disk_tells
-    → StopsOver w disk_tells told plays done sound h now (length (seen h)) (length (seen now)) before after → StopsOfTurns (form_at w) (options_at w) plays h now told done sound before after
-turns_of w plays h now disk_tells told done sound before after state just A heard S = record {
+pub turns_of : (w : Whole) (plays : List Play) (h now : History) (disk_tells told : Bool) (answer : PlaysEnd) (sound : Type 0) (before after : List ℕ) (state : State) → IsJustLoaded w h state → AcceptWith (form_at w) (seen h) [] → IsTrue disk_tells
+    → StopsOver w disk_tells told plays answer sound h now (length (seen h)) (length (seen now)) before after
+    → StopsOfTurns (form_at w) (options_at w) plays h now told (TellsAllLines answer) (OnErr answer ⊥) sound before after
+turns_of w plays h now disk_tells told answer sound before after state just A heard S = record {
   lines = S.lines;
   start = state;
   loaded = just.loaded;
   over = subst (λ i. IsOver (form_at w) i state) (sym (own_shut (form_at w) (seen h) A)) just.over;
   printed = S.printed;
   whole = S.whole;
+  cut = λ un. unfailed answer un S.cut;
   came = S.came heard state just.of_world;
   left = λ so. S.left so heard state just.of_world;
   calls = told_opened w h now sound S.lines state just A (S.calls heard state just.of_world);
   stops = λ quiet again calm. S.stops heard state just.of_world (accepted_safe (form_at w) h A quiet) calm;
 }
+
+-- all lines are told of turns only where they are of their plays, and the output didn't fail in one of the two alone
+pub all_said : (answer : PlaysEnd) → SaysAllLines (end_told answer) → TellsAllLines answer
+all_said (Ok (Ok v)) is = inl refl
+all_said (Ok (Err F.Log)) is = inr refl
+all_said (Ok (Err F.Device)) (inl is) = let wrong : Ok DeviceFault ≡ Ok (Replied Played) = is in absurd (cc)
+all_said (Ok (Err F.Device)) (inr is) = let wrong : Ok DeviceFault ≡ Ok LogFault = is in absurd (cc)
+all_said (Ok (Err F.Memory)) (inl is) = let wrong : Ok NoMemory ≡ Ok (Replied Played) = is in absurd (cc)
+all_said (Ok (Err F.Memory)) (inr is) = let wrong : Ok NoMemory ≡ Ok LogFault = is in absurd (cc)
+all_said (Err unprinted) (inl is) = let wrong : Err unprinted ≡ Ok (Replied Played) = is in absurd (cc)
+all_said (Err unprinted) (inr is) = let wrong : Err unprinted ≡ Ok LogFault = is in absurd (cc)
+
+pub said_unfailed : (answer : PlaysEnd) → OnErr (end_told answer) ⊥ → OnErr answer ⊥
+said_unfailed (Ok (Ok v)) un = tt
+said_unfailed (Ok (Err F.Device)) un = tt
+said_unfailed (Ok (Err F.Memory)) un = tt
+said_unfailed (Ok (Err F.Log)) un = tt
+said_unfailed (Err unprinted) un = un
 
 -- turns end as all played only where their plays are done
 pub all_ended : (answer : PlaysEnd) → end_told answer ≡ Ok (Replied Played) → answer ≡ Ok (Ok tt)
@@ -132,9 +157,9 @@ halted_same options old now H.Memory sound opened = opened
 halted_same options old now H.Log sound opened = opened
 
 -- a file that can be opened, of which no play was taken
-pub unopened_stops : (options : Options) (plays : List Play) (old now : History) (told : Bool) (done sound : Type 0) (written : List ℕ) → CanOpen (seen old) → OpensSafely old now → (sound → SameOrUndone old now)
-    → StopsOfTurns (form_of (opened_bytes (seen old))) options plays old now told done sound written written
-unopened_stops options plays old now told done sound written can safe kept =
+pub unopened_stops : (options : Options) (plays : List Play) (old now : History) (told : Bool) (done unfailed sound : Type 0) (written : List ℕ) → CanOpen (seen old) → OpensSafely old now → (sound → SameOrUndone old now)
+    → StopsOfTurns (form_of (opened_bytes (seen old))) options plays old now told done unfailed sound written written
+unopened_stops options plays old now told done unfailed sound written can safe kept =
     let r = opened_bytes (seen old) in
     let f = form_of r in
     let over : IsOver f r (fresh f options r) = record { file = refl; number = refl } in
@@ -155,6 +180,7 @@ unopened_stops options plays old now told done sound written can safe kept =
       over = over;
       printed = λ out. ([], tt, 0, sym (append-nil written));
       whole = λ is out. ([], tt, sym (append-nil written));
+      cut = λ un out. ([], tt, (0, sym (append-nil written)));
       came = (fresh f options r, course_whole f [] (law_plays plays) (fresh f options r) (fresh f options r) [] (refl, refl));
       left = λ so. (fresh f options r, course_whole f [] (law_plays plays) (fresh f options r) (fresh f options r) [] (refl, refl), kept_left f old now (fresh f options r) can.opens.accepted over (kept so));
       calls = inl refl;
@@ -171,13 +197,13 @@ opened_quiet options old mid (inr (inl undone)) quiet = undone.quiet quiet
 opened_quiet options old mid (inr (inr kept)) quiet = subst Quiet (sym kept.1) quiet
 
 -- a file that was opened, and then played over; where the run is done the plays were, and where it is sound they are
-pub opened_stops : (options : Options) (plays : List Play) (old mid now : History) (told : Bool) (done sound ended calm : Type 0) (before after : List ℕ) → (done → ended) → (sound → calm)
+pub opened_stops : (options : Options) (plays : List Play) (old mid now : History) (told : Bool) (done unfailed sound ended printed calm : Type 0) (before after : List ℕ) → (done → ended) → (unfailed → printed) → (sound → calm)
     → CanOpen (seen old) → OpensSafely old mid → IsOpened options old mid → Accept (seen mid)
-    → StopsOfTurns (form_of (seen mid)) options plays mid now told ended calm before after → StopsOfTurns (form_of (opened_bytes (seen old))) options plays old now told done sound before after
-opened_stops options plays old mid now told done sound ended calm before after to still can safe opened A played =
+    → StopsOfTurns (form_of (seen mid)) options plays mid now told ended printed calm before after → StopsOfTurns (form_of (opened_bytes (seen old))) options plays old now told done unfailed sound before after
+opened_stops options plays old mid now told done unfailed sound ended printed calm before after to un still can safe opened A played =
     let r = opened_bytes (seen old) in
     let f = form_of r in
-    let p : StopsOfTurns f options plays mid now told ended calm before after = subst (λ i. StopsOfTurns (form_of i) options plays mid now told ended calm before after) opened.reads played in
+    let p : StopsOfTurns f options plays mid now told ended printed calm before after = subst (λ i. StopsOfTurns (form_of i) options plays mid now told ended printed calm before after) opened.reads played in
     let over : IsOver f r p.start = subst (λ i. IsOver f i p.start) (own_shut (form_of (seen mid)) (seen mid) A ∙ opened.reads) p.over in
     record {
       lines = p.lines;
@@ -186,6 +212,7 @@ opened_stops options plays old mid now told done sound ended calm before after t
       over = over;
       printed = p.printed;
       whole = λ is. p.whole (to is);
+      cut = λ is. p.cut (un is);
       came = p.came;
       left = λ so. p.left (still so);
       calls = since_when options old now calm sound p.lines still (told_since options old mid now calm p.lines A opened.reads p.calls);
@@ -196,27 +223,28 @@ opened_stops options plays old mid now told done sound ended calm before after t
     }
 
 -- the file at a name
-module _ (options : Options) (plays : List Play) (held given : Option History) (told : Bool) (done sound : Type 0) where
-  pub held_stops : (h now : History) (before after : List ℕ) → held ≡ Some h → given ≡ Some now → (OpensToTurn options (seen h) → StopsOfTurns (form_of (opened_bytes (seen h))) options plays h now told done sound before after)
-      → StopsHeld options plays held given told done sound before after
+module _ (options : Options) (plays : List Play) (held given : Option History) (told : Bool) (done unfailed sound : Type 0) where
+  pub held_stops : (h now : History) (before after : List ℕ) → held ≡ Some h → given ≡ Some now → (OpensToTurn options (seen h) → StopsOfTurns (form_of (opened_bytes (seen h))) options plays h now told done unfailed sound before after)
+      → StopsHeld options plays held given told done unfailed sound before after
   held_stops h now before after there left S old is =
-      subst (λ x. OpensToTurn options (seen x) → (n : History) × (given ≡ Some n) × StopsOfTurns (form_of (opened_bytes (seen x))) options plays x n told done sound before after) (same_held h old held there is)
+      subst (λ x. OpensToTurn options (seen x) → (n : History) × (given ≡ Some n) × StopsOfTurns (form_of (opened_bytes (seen x))) options plays x n told done unfailed sound before after) (same_held h old held there is)
       (λ opens. (now, left, S opens))
 
   -- it wasn't touched
-  pub same_stops : (written : List ℕ) → given ≡ held → StopsHeld options plays held given told done sound written written
-  same_stops written same old is opens = (old, same ∙ is, unopened_stops options plays old old told done sound written opens.can_open (still_safe old old refl) (λ so. inr refl))
+  pub same_stops : (written : List ℕ) → given ≡ held → StopsHeld options plays held given told done unfailed sound written written
+  same_stops written same old is opens = (old, same ∙ is, unopened_stops options plays old old told done unfailed sound written opens.can_open (still_safe old old refl) (λ so. inr refl))
 
   -- what says less often that the run is done, or that it is sound
-  pub stops_when : (less calm : Type 0) (before after : List ℕ) → (less → done) → (calm → sound) → StopsHeld options plays held given told done sound before after → StopsHeld options plays held given told less calm before after
-  stops_when less calm before after to still S old is opens =
+  pub stops_when : (less printed calm : Type 0) (before after : List ℕ) → (less → done) → (printed → unfailed) → (calm → sound) → StopsHeld options plays held given told done unfailed sound before after
+      → StopsHeld options plays held given told less printed calm before after
+  stops_when less printed calm before after to un still S old is opens =
       let s = S old is opens in
       let p = s.2 in
-      (s.0, s.1, record { lines = p.lines; start = p.start; loaded = p.loaded; over = p.over; printed = p.printed; whole = λ so. p.whole (to so); came = p.came; left = λ so. p.left (still so); calls = since_when options old s.0 sound calm p.lines still p.calls; stops = p.stops })
+      (s.0, s.1, record { lines = p.lines; start = p.start; loaded = p.loaded; over = p.over; printed = p.printed; whole = λ so. p.whole (to so); cut = λ so. p.cut (un so); came = p.came; left = λ so. p.left (still so); calls = since_when options old s.0 sound calm p.lines still p.calls; stops = p.stops })
 
 -- where no play was taken
-pub unscripted_stops : (input : Input) (options : Options) (held : Option History) (told : Bool) (done sound : Type 0) (written : List ℕ) → StopsScripted input options held held told done sound written written
-unscripted_stops input options held told done sound written = ([], inl refl, same_stops options [] held held told done sound written refl)
+pub unscripted_stops : (input : Input) (options : Options) (held : Option History) (told : Bool) (done unfailed sound : Type 0) (written : List ℕ) → StopsScripted input options held held told done unfailed sound written written
+unscripted_stops input options held told done unfailed sound written = ([], inl refl, same_stops options [] held held told done unfailed sound written refl)
 
 -- the line of the ending stands behind a text, or a part of the line
 pub line_behind : (tells : Bool) (text after : List ℕ) (f1 f2 : ℕ) (answered : Result Ending Unprinted) (e : Ending) (status : ℕ) → Finishes answered (output_by tells text after f1 f2) e status → IsTrue tells → WroteLine text after

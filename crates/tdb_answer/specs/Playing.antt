@@ -1,5 +1,5 @@
 -- How plays are taken over a file and told on an output, as far as they come.
-use Rattle.std.specs.Prelude.{◌≡◌, ℕ, ◌≤◌, Bool, IsTrue, List, ◌++◌, Option, None, Some, Result, Ok, Err, false}
+use Rattle.std.specs.Prelude.{◌≡◌, ℕ, ◌≤◌, Bool, IsTrue, List, ◌++◌, take, Option, None, Some, Result, Ok, Err, OnOk, false}
 use Rattle.tdb_disk.specs.Count.{Rose}
 use Rattle.tdb_space.specs.Form.{Form, form_of}
 use Rattle.tdb_backup.specs.Dump.{WroteFront}
@@ -115,12 +115,18 @@ pub record Ran (disk_tells output_tells : Bool) (old new : Scene) (plays : List 
       → RunsTo (form_at old.over.world) state plays (IsStateAt new) output_tells old.written new.written old.logs new.logs answer
   pub rose : IsTrue disk_tells → (state : State) → IsStateAt old state → OnBroken answer (Rose old.over.faults new.over.faults)
 
--- The lines of all commands that aren't done in a world were written, or a front of their text where that broke off.
+-- whole lines were written, from the first one on
+abbrev pub WroteLines : List Line → List ℕ → List ℕ → Type 0
+WroteLines lines before now = (k : ℕ) × (now ≡ before ++ report_text (take k lines))
+
+-- The lines of all commands that aren't done in a world were written, or a front of their text where that broke off:
+-- whole lines, unless the output failed.
 pub record EndTold (w : Whole) (told : Bool) (before now : List ℕ) (answer : PlaysEnd) : Type 0 where
   pub lines : List Line
   pub is_end : IsEnd w lines
   pub whole : answer ≡ Ok (Ok tt) → IsTrue told → now ≡ before ++ report_text lines
   pub front : IsTrue told → WroteFront before (report_text lines) now
+  pub cut : OnOk answer (IsTrue told → WroteLines lines before now)
 
 -- How all plays end, over the image a, after which b is left, on an output that tells what it holds or doesn't.
 abbrev pub PlayedFront : Form → Options → List ℕ → Bool → List ℕ → List ℕ → List Logged → List Logged → PlaysEnd → Type 0
@@ -183,7 +189,7 @@ end_of (Ok (Ok v)) (Ok w) = Ok (Ok tt)
 end_of (Ok (Ok v)) (Err Untold.Memory) = Ok (Err F.Memory)
 end_of (Ok (Ok v)) (Err Untold.Failed) = Err Rest.Report
 end_of (Ok (Err refusal)) (Ok w) = Ok (Err (log_fault refusal))
-end_of (Ok (Err refusal)) (Err Untold.Memory) = Ok (Err (log_fault refusal))
+end_of (Ok (Err refusal)) (Err Untold.Memory) = Ok (Err F.Memory)
 end_of (Ok (Err refusal)) (Err Untold.Failed) = Err Rest.Report
 end_of (Err Run.Memory) (Ok w) = Ok (Err F.Memory)
 end_of (Err Run.Memory) (Err Untold.Memory) = Ok (Err F.Memory)

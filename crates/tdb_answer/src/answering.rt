@@ -1,6 +1,6 @@
 // What a command line asks for is done over the files.
 
-ghost use Rattle.std.specs.Prelude.{◌≡◌, ℕ, List, Ok, false, string_bytes, IsTrue};
+ghost use Rattle.std.specs.Prelude.{◌≡◌, ℕ, List, Ok, OnErr, false, string_bytes, IsTrue};
 ghost use Rattle.tdb_disk.specs.Count.{HasCause, Rose};
 ghost use Rattle.tdb_cmdline.specs.declared.ask.Task.TheVariants.{Turns as TurnsIs, Session as SessionIs};
 ghost use Rattle.tdb_answer.specs.declared.ending.Ending.TheVariants.{Replied, Usage};
@@ -18,7 +18,7 @@ ghost use Rattle.tdb_answer.specs.Reads.{AskEnds, reads_input};
 ghost use Rattle.tdb_answer.specs.Left.{TaskLeaves, SameElse};
 ghost use Rattle.tdb_answer.specs.Looks.{ending_of, Began};
 ghost use Rattle.tdb_answer.specs.Printed.{TaskText, task_tells};
-ghost use Rattle.tdb_answer.specs.Stops.{StopsScripted};
+ghost use Rattle.tdb_answer.specs.Stops.{SaysAllLines, StopsScripted};
 ghost use Rattle.tdb_answer.specs.Takes.{MayTake, takes};
 
 use crate::act::act_on_file;
@@ -67,7 +67,7 @@ pub fn answer_ask<F: Files, S: Source, K: Sink, L: Logs>(
     ensures played { (options : WorldOptions) → ask.now.task ≡ TurnsIs options → IsTrue F.D.tells → result ≡ Ok (Replied Played)
         → AllPlayed options (input_by S.tells (S.left input.old) (S.faults input.old) (S.faults input.new)) (output_by K.tells (K.written output.old) (K.written output.new) (K.faults output.old) (K.faults output.new)) (L.logs logs.old) (L.logs logs.new) (F.held files.old (string_bytes ask.now.file)) (F.held files.new (string_bytes ask.now.file)) }
     ensures stops { (options : WorldOptions) → ask.now.task ≡ TurnsIs options → IsTrue F.D.tells
-        → StopsScripted (input_by S.tells (S.left input.old) (S.faults input.old) (S.faults input.new)) options (F.held files.old (string_bytes ask.now.file)) (F.held files.new (string_bytes ask.now.file)) K.tells (result ≡ Ok (Replied Played)) (Rose (F.faults files.old) (F.faults files.new) → ⊥) (K.written output.old) (K.written output.new) }
+        → StopsScripted (input_by S.tells (S.left input.old) (S.faults input.old) (S.faults input.new)) options (F.held files.old (string_bytes ask.now.file)) (F.held files.new (string_bytes ask.now.file)) K.tells (SaysAllLines result) (OnErr result ⊥) (Rose (F.faults files.old) (F.faults files.new) → ⊥) (K.written output.old) (K.written output.new) }
     ensures served { (limit : ℕ) → ask.now.task ≡ SessionIs limit → IsTrue F.D.tells
         → SessionHeld limit (input_by S.tells (S.left input.old) (S.faults input.old) (S.faults input.new)) (F.held files.old (string_bytes ask.now.file)) (F.held files.new (string_bytes ask.now.file)) K.tells (K.written output.old) (K.written output.new) (L.logs logs.old) (L.logs logs.new) result }
     ensures heard { HeardBy (S.faults input.old) (S.faults input.new) (ending_of result) }

@@ -1,6 +1,6 @@
 // Plays that are taken over a file, and told line by line; logs are told what becomes of the file.
 
-ghost use Rattle.std.specs.Prelude.{◌≡◌, ◌≤◌, ◌++◌, [], Ok, IsTrue, OnOk, OnErr, false};
+ghost use Rattle.std.specs.Prelude.{◌≡◌, ◌≤◌, ◌++◌, [], Ok, IsTrue, IsErrOf, OnOk, OnErr, false};
 ghost use Rattle.tdb_disk.specs.Count.{HasCause, HasCauseOf, Rose};
 ghost use Rattle.tdb_disk.specs.History.{seen};
 ghost use Rattle.tdb_law.specs.World.{State};
@@ -11,9 +11,9 @@ ghost use Rattle.tdb_script.specs.Text.{report_text};
 ghost use Rattle.tdb_world.specs.Whole.{form_at, options_at};
 ghost use Rattle.tdb_world.specs.Courses.Playable.{ArePlayable};
 ghost use Rattle.tdb_world.specs.Courses.Scene.{scene};
-ghost use Rattle.tdb_answer.specs.Playing.{UnlessBroken, OnBroken, IsUnbroken, PlayedOver, Ran, EndTold, end_of};
+ghost use Rattle.tdb_answer.specs.Playing.{UnlessBroken, OnBroken, IsUnbroken, PlayedOver, Ran, EndTold, WroteLines, end_of};
 ghost use Rattle.tdb_world.specs.Loaded.{IsJustLoaded};
-ghost use Rattle.tdb_answer.specs.Stops.{StopsOfTurns, StopsOver, StopsTold};
+ghost use Rattle.tdb_answer.specs.Stops.{StopsOfTurns, StopsOver, StopsTold, TellsAllLines};
 
 use crate::ending::Unprinted;
 use std::alloc::Global;
@@ -25,11 +25,12 @@ use tdb_open::Fault;
 use tdb_script::write_line;
 use tdb_world::{RunFault, World};
 
-/// Writes the lines of a report, each in one call. Where the output fails, or memory is wanting, a front of their text
-/// was written.
+/// Writes the lines of a report, each in one call. Where the output fails a front of their text was written, and where
+/// memory is wanting a front of the lines.
 fn tell<K: Sink>(alloc: Global, report: &TurnReport, output: &mut K) -> Result<(), WriteRefusal>
     ensures whole { OnOk result (IsTrue K.tells → K.written output.new ≡ K.written output.old ++ report_text report.now.lines) }
     ensures front { OnErr result (IsTrue K.tells → WroteFront (K.written output.old) (report_text report.now.lines) (K.written output.new)) }
+    ensures memory { IsErrOf result WriteRefusal.Memory → IsTrue K.tells → WroteLines report.now.lines (K.written output.old) (K.written output.new) }
     ensures cause { HasCauseOf Failed (K.faults output.old) (K.faults output.new) result }
 {
     for i in 0..report.len() {
@@ -42,7 +43,7 @@ fn tell<K: Sink>(alloc: Global, report: &TurnReport, output: &mut K) -> Result<(
 }
 
 /// How plays end, by how they were taken and how they were told. A failed call of the disk or of the output counts
-/// before a log's refusal.
+/// first, and then want of memory, so that all lines are told where a log failed.
 fn ended(
     played: Result<Result<(), LogRefusal>, RunFault>,
     told: Result<(), WriteRefusal>,
@@ -53,9 +54,9 @@ fn ended(
         (Err(RunFault::Io), Err(WriteRefusal::Failed)) => Err(Unprinted::Fault),
         (Err(RunFault::Io), _) => Ok(Err(Fault::Device)),
         (_, Err(WriteRefusal::Failed)) => Err(Unprinted::Report),
-        (Ok(Err(refusal)), _) => Ok(Err(Fault::from(refusal))),
         (Err(RunFault::Memory), _) => Ok(Err(Fault::Memory)),
         (_, Err(WriteRefusal::Memory)) => Ok(Err(Fault::Memory)),
+        (Ok(Err(refusal)), Ok(())) => Ok(Err(Fault::from(refusal))),
         (Ok(Ok(())), Ok(())) => Ok(Ok(())),
     }
 }
@@ -141,7 +142,7 @@ fn play_in<D: Disk, K: Sink, L: Logs>(
     ensures rises { world.old.faults ≤ world.new.faults }
     ensures quiet { UnlessBroken result (world.new.faults ≡ world.old.faults) }
     ensures rose { IsTrue D.tells → (state : State) → IsJustLoaded world.old.world world.old.history state → OnBroken result (Rose world.old.faults world.new.faults) }
-    ensures stops { StopsOver world.old.world D.tells K.tells plays.now (result ≡ Ok (Ok tt)) (Rose world.old.faults world.new.faults → ⊥) world.old.history world.new.history world.old.size world.new.size (K.written output.old) (K.written output.new) }
+    ensures stops { StopsOver world.old.world D.tells K.tells plays.now result (Rose world.old.faults world.new.faults → ⊥) world.old.history world.new.history world.old.size world.new.size (K.written output.old) (K.written output.new) }
     ensures cause { HasCause (K.faults output.old) (K.faults output.new) result }
 {
     match play_each(alloc, world, plays, output, logs)? {
@@ -172,7 +173,7 @@ pub(crate) fn play_all<D: Disk, K: Sink, L: Logs>(
     ensures quiet { UnlessBroken result.1 (D.faults result.0 ≡ world.faults) }
     ensures rose { IsTrue D.tells → (state : State) → IsJustLoaded world.world world.history state → OnBroken result.1 (Rose world.faults (D.faults result.0)) }
     ensures stops { IsTrue D.tells → (state : State) → IsJustLoaded world.world world.history state
-        → StopsOfTurns (form_at world.world) (options_at world.world) plays.now world.history (D.history result.0) K.tells (result.1 ≡ Ok (Ok tt)) (Rose world.faults (D.faults result.0) → ⊥) (K.written output.old) (K.written output.new) }
+        → StopsOfTurns (form_at world.world) (options_at world.world) plays.now world.history (D.history result.0) K.tells (TellsAllLines result.1) (OnErr result.1 ⊥) (Rose world.faults (D.faults result.0) → ⊥) (K.written output.old) (K.written output.new) }
     ensures cause { HasCause (K.faults output.old) (K.faults output.new) result.1 }
 {
     world.stands();

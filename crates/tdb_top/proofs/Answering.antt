@@ -58,7 +58,7 @@ module _ (tells input_tells output_tells : Bool) (at : Outside) where
         left = λ told. words_want input ask at.held;
         began = λ told. nothing (TextBefore ask at.held) NoMemory at.written (nothing_before ask at.held);
         played = λ options name asks told is. cc;
-        stops = λ options name asks told. unscripted_stops input options (at.held name) output_tells _ _ at.written;
+        stops = λ options name asks told. unscripted_stops input options (at.held name) output_tells _ _ _ at.written;
         served = λ limit name asks told. wants_held limit input name (at.held name) at.logs (at.held name) (at.held name) output_tells at.written refl;
         told = λ told. ask_unheard input ask at.held at.logs;
         counted = counted_asked tells at.faults NoMemory (λ is. cc) ask;

@@ -1,13 +1,15 @@
 -- Turns with status 0 were played whole.
 use Rattle.std.proofs.Common.{◌≡◌, ◌⊎◌, ℕ, true, false, List, ◌++◌, Option, None, Some, Result, Ok, Err, refl, sym, ◌∙◌, ap, subst, inl, inr, arith}
-use Rattle.std.specs.Prelude.{Bool, IsTrue}
+use Rattle.std.specs.Prelude.{Bool, IsTrue, ◌≢◌, OnErr}
 use Rattle.std.proofs.lemmas.Bool.{false≢true}
 use Rattle.std.proofs.lemmas.List.{append-nil}
 use Rattle.tdb_disk.specs.History.{History}
 use Rattle.tdb_cmdline.specs.declared.ask.Task.{Task}
 use Rattle.tdb_cmdline.specs.declared.ask.Task.TheVariants.{Create, On, Read, Rescue, Print, Repack, Restore, Backup, Verify, Convert, Merge, Mend, Move, Turns, Session, Generate}
 use Rattle.tdb_answer.specs.declared.ending.Ending.{Ending}
-use Rattle.tdb_answer.specs.declared.ending.Ending.TheVariants.{Replied, Refused}
+use Rattle.tdb_answer.specs.declared.ending.Ending.TheVariants.{Replied, Refused, Usage, DeviceFault, NoMemory, Malformed, InputFault, LogFault, Missing, There}
+use Rattle.tdb_answer.specs.declared.ending.Reply.{Reply}
+use Rattle.tdb_answer.specs.declared.ending.Reply.TheVariants as R
 use Rattle.tdb_answer.specs.declared.ending.Reply.TheVariants.{Played}
 use Rattle.tdb_answer.specs.declared.ending.Unprinted.{Unprinted}
 use Rattle.tdb_log.specs.Logs.{Logged}
@@ -19,7 +21,9 @@ use Rattle.tdb_answer.specs.Input.{Input}
 use Rattle.tdb_answer.specs.Looks.{ending_of}
 use Rattle.tdb_answer.specs.Output.{output_by}
 use Rattle.tdb_answer.specs.Printed.{Finishes}
+use Rattle.tdb_answer.specs.Stops.{SaysAllLines}
 use Rattle.tdb_answer.specs.Run.{MayEnd, is_due, is_read, is_copied, is_verified, is_played, is_served, is_generated, is_repacked, is_converted, is_merged, is_mended, is_moved, call_failed, memory_wanting, log_failed}
+use Rattle.tdb_open.specs.declared.halt.Refusal.TheVariants.{Header, Corrupt, NeedsRecovery, TooLong}
 use Rattle.tdb_answer.proofs.Held.{same_held}
 use Rattle.tdb_answer.proofs.Runs.{refusal_status}
 
@@ -74,6 +78,59 @@ ended_zero ask options name held input before after _ asks (is_moved e key into 
 ended_zero ask options name held input before after _ asks (call_failed a is rose) zero = absurd (omega (arith, zero))
 ended_zero ask options name held input before after _ asks memory_wanting zero = absurd (omega (arith, zero))
 ended_zero ask options name held input before after _ asks (log_failed a is) zero = absurd (omega (arith, zero))
+
+-- status 10 tells of a log that failed alone
+reply_not : (reply : Reply) → status_of (Replied reply) ≡ 10 → ⊥
+reply_not R.Done is = omega (arith, is)
+reply_not (R.Value value) is = omega (arith, is)
+reply_not (R.Escaped value) is = omega (arith, is)
+reply_not R.Dumped is = omega (arith, is)
+reply_not R.Restored is = omega (arith, is)
+reply_not R.Copied is = omega (arith, is)
+reply_not R.Verified is = omega (arith, is)
+reply_not R.Played is = omega (arith, is)
+reply_not R.Closed is = omega (arith, is)
+reply_not (R.Generated text) is = omega (arith, is)
+reply_not (R.Number n) is = omega (arith, is)
+reply_not (R.Pair key value) is = omega (arith, is)
+reply_not R.End is = omega (arith, is)
+reply_not R.KeyMissing is = omega (arith, is)
+reply_not R.KeyThere is = omega (arith, is)
+reply_not R.NoTransaction is = omega (arith, is)
+reply_not (R.Full len need) is = omega (arith, is)
+
+ten_log : (e : Ending) → status_of e ≡ 10 → e ≡ LogFault
+ten_log LogFault is = refl
+ten_log (Replied reply) is = absurd (reply_not reply is)
+ten_log Usage is = absurd (omega (arith, is))
+ten_log (Refused (Header fault)) is = absurd (omega (arith, is))
+ten_log (Refused (Corrupt what at)) is = absurd (omega (arith, is))
+ten_log (Refused NeedsRecovery) is = absurd (omega (arith, is))
+ten_log (Refused (TooLong len)) is = absurd (omega (arith, is))
+ten_log DeviceFault is = absurd (omega (arith, is))
+ten_log NoMemory is = absurd (omega (arith, is))
+ten_log (Malformed at) is = absurd (omega (arith, is))
+ten_log InputFault is = absurd (omega (arith, is))
+ten_log (Missing name) is = absurd (omega (arith, is))
+ten_log (There name) is = absurd (omega (arith, is))
+
+module _ (tells : Bool) (text last : List ℕ) (f1 f2 : ℕ) where
+  -- what was answered, by the status of a run whose ending was printed
+  log_told : (r : Result Ending Unprinted) (e : Ending) (status : ℕ) → PrintedFor e (ending_of r) → Finishes r (output_by tells text last f1 f2) e status → status ≡ 10 → r ≡ Ok LogFault
+  log_told (Err rest) e status printed done ten = absurd (omega (arith, done.1, ten))
+  log_told (Ok found) e status printed (inr part) ten = absurd (omega (arith, part.exits, ten))
+  log_told (Ok found) e status (inr want) (inl every) ten = absurd (omega (arith, ap status_of want.0, every.exits, ten))
+  log_told (Ok found) e status (inl same) (inl every) ten = ap Ok (ten_log found (ap status_of (sym same) ∙ sym every.exits ∙ ten))
+
+  pub said_by : (r : Result Ending Unprinted) (e : Ending) (status : ℕ) → PrintedFor e (ending_of r) → Finishes r (output_by tells text last f1 f2) e status → (status ≡ 0 → r ≡ Ok (Replied Played))
+      → (status ≡ 0) ⊎ (status ≡ 10) → SaysAllLines r
+  said_by r e status printed done played (inl zero) = inl (played zero)
+  said_by r e status printed done played (inr ten) = inr (log_told r e status printed done ten)
+
+  -- the output took what stands before the line
+  pub unfailed_told : (r : Result Ending Unprinted) (e : Ending) (status : ℕ) → Finishes r (output_by tells text last f1 f2) e status → status ≢ 8 → OnErr r ⊥
+  unfailed_told (Ok found) e status done other = tt
+  unfailed_told (Err rest) e status done other = other done.1
 
 module _ (options : Options) (input : Input) (tells : Bool) (w0 w1 w2 : List ℕ) (f0 f1 f2 : ℕ) where
   -- status 0 says that all plays were taken and told, and then nothing is written behind the report

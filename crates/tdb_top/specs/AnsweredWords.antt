@@ -1,5 +1,5 @@
 -- What answering words leads to, before the line of the ending is printed.
-use Rattle.std.specs.Prelude.{◌≡◌, ◌⊎◌, ℕ, List, Option, None, Some, Bool, false, IsTrue, Result, Ok}
+use Rattle.std.specs.Prelude.{◌≡◌, ◌⊎◌, ℕ, List, Option, None, Some, Bool, false, IsTrue, Result, Ok, OnErr}
 use Rattle.tdb_disk.specs.Count.{HasCause, Rose}
 use Rattle.tdb_cmdline.specs.Ask.{Ask}
 use Rattle.tdb_cmdline.specs.declared.ask.Task.TheVariants.{Turns, Session}
@@ -18,7 +18,7 @@ use Rattle.tdb_answer.specs.Looks.{ending_of, Began}
 use Rattle.tdb_answer.specs.Printed.{TextBefore, ask_tells}
 use Rattle.tdb_answer.specs.Reads.{ask_reads}
 use Rattle.tdb_answer.specs.Run.{MayEnd}
-use Rattle.tdb_answer.specs.Stops.{StopsScripted}
+use Rattle.tdb_answer.specs.Stops.{SaysAllLines, StopsScripted}
 use Rattle.tdb_top.specs.Outside.{Outside, input_between, output_between}
 
 -- What the words ask for was answered between two moments, by files that tell what they hold or don't, an input and an
@@ -32,8 +32,8 @@ pub record AnsweredWords (tells input_tells output_tells : Bool) (ask : Option A
   pub played : (options : Options) (name : List ℕ) → ask ≡ Some (record { file = name; task = Turns options }) → IsTrue tells → answer ≡ Ok (Replied Played)
       → AllPlayed options (input_between input_tells before after) (output_between output_tells before after) before.logs after.logs (before.held name) (after.held name)
   pub stops : (options : Options) (name : List ℕ) → ask ≡ Some (record { file = name; task = Turns options }) → IsTrue tells
-      → StopsScripted (input_between input_tells before after) options (before.held name) (after.held name) output_tells (answer ≡ Ok (Replied Played))
-        (Rose before.faults after.faults → ⊥) before.written after.written
+      → StopsScripted (input_between input_tells before after) options (before.held name) (after.held name) output_tells (SaysAllLines answer) (OnErr answer ⊥)
+      (Rose before.faults after.faults → ⊥) before.written after.written
   pub served : (limit : ℕ) (name : List ℕ) → ask ≡ Some (record { file = name; task = Session limit }) → IsTrue tells
       → SessionHeld limit (input_between input_tells before after) (before.held name) (after.held name) output_tells before.written after.written before.logs after.logs answer
   pub told : IsTrue tells → AskHeard (input_between input_tells before after) ask before.held after.held (ending_of answer) before.logs after.logs

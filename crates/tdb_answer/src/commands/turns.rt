@@ -1,6 +1,6 @@
 // The command that takes the plays of a script over a file, and prints their report.
 
-ghost use Rattle.std.specs.Prelude.{◌≡◌, ◌≤◌, ◌&&◌, ℕ, List, Ok, false, IsTrue, if◌then◌else◌};
+ghost use Rattle.std.specs.Prelude.{◌≡◌, ◌≤◌, ◌&&◌, ℕ, List, Ok, OnErr, false, IsTrue, if◌then◌else◌};
 ghost use Rattle.tdb_disk.specs.Count.{HasCause, Rose};
 ghost use Rattle.tdb_disk.specs.History.{seen};
 ghost use Rattle.tdb_disk.specs.Names.{SameBut};
@@ -19,7 +19,7 @@ ghost use Rattle.tdb_open.specs.Opening.{opened_bytes};
 ghost use Rattle.tdb_answer.specs.Output.{output_by};
 ghost use Rattle.tdb_answer.specs.Playing.{end_told, PlayedFile, PlayedAll, PlaysCause};
 ghost use Rattle.tdb_answer.specs.Reads.{AskCause};
-ghost use Rattle.tdb_answer.specs.Stops.{StopsHeld, StopsOfTurns, StopsScripted};
+ghost use Rattle.tdb_answer.specs.Stops.{SaysAllLines, StopsHeld, StopsOfTurns, StopsScripted};
 ghost use Rattle.tdb_disk.specs.declared.files.Take.TheVariants as Way;
 
 use crate::ending::{Ending, Reply, Unprinted};
@@ -59,7 +59,7 @@ fn play_on_disk<D: Disk, K: Sink, L: Logs>(
     requires playable { ArePlayable plays.now }
     ensures played { IsTrue D.tells → PlayedFile options.now (D.history disk) (D.history result.0) plays.now K.tells (K.written output.old) (K.written output.new) (L.logs logs.old) (L.logs logs.new) result.1 }
     ensures stops { IsTrue D.tells → OpensToTurn options.now (seen (D.history disk))
-        → StopsOfTurns (form_of (opened_bytes (seen (D.history disk)))) options.now plays.now (D.history disk) (D.history result.0) K.tells (result.1 ≡ Ok (Replied Played)) (Rose (D.faults disk) (D.faults result.0) → ⊥) (K.written output.old) (K.written output.new) }
+        → StopsOfTurns (form_of (opened_bytes (seen (D.history disk)))) options.now plays.now (D.history disk) (D.history result.0) K.tells (SaysAllLines result.1) (OnErr result.1 ⊥) (Rose (D.faults disk) (D.faults result.0) → ⊥) (K.written output.old) (K.written output.new) }
     ensures counted { CountedIf D.tells (D.faults disk) (D.faults result.0) (ending_of result.1) }
     ensures cause { HasCause (K.faults output.old) (K.faults output.new) result.1 }
     ensures asked { ending_of result.1 ≡ Usage → ⊥ }
@@ -89,7 +89,7 @@ fn play_on_file<F: Files, K: Sink, L: Logs>(
     requires take { F.may_take name.now (if options.now.read_only then Way.ReadOnly else Way.Existing) }
     ensures cause { IsTrue F.D.tells → PlaysCause options.now name.now (F.held files.old name.now) (F.faults files.old) (F.faults files.new) (ending_of result) }
     ensures left { IsTrue F.D.tells → T.TurnsLeave options.now (F.held files.old name.now) (ending_of result) (F.held files.new name.now) }
-    ensures stops { IsTrue F.D.tells → StopsHeld options.now plays.now (F.held files.old name.now) (F.held files.new name.now) K.tells (result ≡ Ok (Replied Played)) (Rose (F.faults files.old) (F.faults files.new) → ⊥) (K.written output.old) (K.written output.new) }
+    ensures stops { IsTrue F.D.tells → StopsHeld options.now plays.now (F.held files.old name.now) (F.held files.new name.now) K.tells (SaysAllLines result) (OnErr result ⊥) (Rose (F.faults files.old) (F.faults files.new) → ⊥) (K.written output.old) (K.written output.new) }
     ensures others { SameBut name.now (F.held files.old) (F.held files.new) }
     ensures given_back { (other : List ℕ) → F.is_taken files.new other ≡ false }
     ensures counted { CountedIf F.D.tells (F.faults files.old) (F.faults files.new) (ending_of result) }
@@ -131,7 +131,7 @@ pub(crate) fn turns_on_file<F: Files, S: Source, K: Sink, L: Logs>(
     requires take { F.may_take name.now (if options.now.read_only then Way.ReadOnly else Way.Existing) }
     ensures cause { IsTrue F.D.tells → AskCause (input_by S.tells (S.left input.old) (S.faults input.old) (S.faults input.new)) (Turns options.now) name.now (F.held files.old name.now) (F.faults files.old) (F.faults files.new) (ending_of result) }
     ensures left { IsTrue F.D.tells → T.TurnsLeave options.now (F.held files.old name.now) (ending_of result) (F.held files.new name.now) }
-    ensures stops { IsTrue F.D.tells → StopsScripted (input_by S.tells (S.left input.old) (S.faults input.old) (S.faults input.new)) options.now (F.held files.old name.now) (F.held files.new name.now) K.tells (result ≡ Ok (Replied Played)) (Rose (F.faults files.old) (F.faults files.new) → ⊥) (K.written output.old) (K.written output.new) }
+    ensures stops { IsTrue F.D.tells → StopsScripted (input_by S.tells (S.left input.old) (S.faults input.old) (S.faults input.new)) options.now (F.held files.old name.now) (F.held files.new name.now) K.tells (SaysAllLines result) (OnErr result ⊥) (Rose (F.faults files.old) (F.faults files.new) → ⊥) (K.written output.old) (K.written output.new) }
     ensures others { SameBut name.now (F.held files.old) (F.held files.new) }
     ensures given_back { (other : List ℕ) → F.is_taken files.new other ≡ false }
     ensures counted { CountedIf F.D.tells (F.faults files.old) (F.faults files.new) (ending_of result) }

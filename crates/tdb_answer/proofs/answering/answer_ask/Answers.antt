@@ -1,5 +1,5 @@
 use Rattle.std.proofs.Common.{◌≡◌, ◌∷◌, ℕ, List, Ok, string_bytes, refl, sym, ◌∙◌, ap, subst, inl, inr}
-use Rattle.std.specs.Prelude.{IsTrue}
+use Rattle.std.specs.Prelude.{IsTrue, OnErr}
 use Rattle.std.proofs.lemmas.Bool.{and_parts}
 use Rattle.tdb_disk.specs.Count.{Rose}
 use Rattle.tdb_commands.specs.declared.options.Options.{Options}
@@ -18,14 +18,12 @@ use Rattle.tdb_answer.specs.Commands.Merge.{MergeLeaves}
 use Rattle.tdb_answer.specs.Commands.Moving.{MoveLeaves}
 use Rattle.tdb_cmdline.specs.declared.ask.Task.{Task}
 use Rattle.tdb_cmdline.specs.declared.ask.Task.TheVariants.{Turns, Verify, Convert, Mend}
-use Rattle.tdb_answer.specs.declared.ending.Ending.TheVariants.{Replied}
-use Rattle.tdb_answer.specs.declared.ending.Reply.TheVariants.{Played}
 use Rattle.tdb_answer.specs.Commands.Generate.{GenHeard}
 use Rattle.tdb_answer.specs.Commands.Verify.{VerifyText, VerifyCause}
 use Rattle.tdb_answer.specs.Looks.{ending_of, Began, StandsBefore}
 use Rattle.tdb_answer.specs.Printed.{TaskText, task_tells}
 use Rattle.tdb_answer.specs.Heard.{TaskHeard, VerifyHeard, ConvertHeard, MergeHeard, MoveHeard}
-use Rattle.tdb_answer.specs.Stops.{StopsScripted}
+use Rattle.tdb_answer.specs.Stops.{SaysAllLines, StopsScripted}
 use Rattle.tdb_answer.proofs.Looking.{began_as}
 use Rattle.tdb_answer.proofs.Acting.{made_cause, made_left, backup_ends, verify_ends, gen_ends}
 use Rattle.tdb_answer.proofs.Unlogged.{made_unlogged}
@@ -418,7 +416,7 @@ pub returns-in-Turns-clause-stops : goal.returns-in-Turns-clause-stops
 returns-in-Turns-clause-stops g c options is told =
     let input = input_by g.S.Source.tells (g.S.Source.left c.args.input.now) (g.S.Source.faults c.args.input.now) (g.S.Source.faults c.turns_on_file.new.input) in
     let same : c.in-Turns.options ≡ options = (let one : Turns c.in-Turns.options ≡ Turns options = sym c.in-Turns.is ∙ is in cc) in
-    subst (λ (q : List ℕ × Options). StopsScripted input q.1 (g.F.Files.held c.args.files.now q.0) (g.F.Files.held c.turns_on_file.new.files q.0) g.K.Sink.tells (c.turns_on_file.result ≡ Ok (Replied Played))
+    subst (λ (q : List ℕ × Options). StopsScripted input q.1 (g.F.Files.held c.args.files.now q.0) (g.F.Files.held c.turns_on_file.new.files q.0) g.K.Sink.tells (SaysAllLines c.turns_on_file.result) (OnErr c.turns_on_file.result ⊥)
     (Rose (g.F.Files.faults c.args.files.now) (g.F.Files.faults c.turns_on_file.new.files) → ⊥) (g.K.Sink.written c.args.output.now) (g.K.Sink.written c.turns_on_file.new.output))
     (λ j. (c.as_str-name.ensures.value j, same j)) (c.turns_on_file.ensures.stops told)
 

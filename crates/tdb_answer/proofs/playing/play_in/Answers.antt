@@ -17,6 +17,7 @@ use Rattle.tdb_open.specs.Loading.{OpensToTurn}
 use Rattle.tdb_world.specs.Loaded.{IsJustLoaded}
 use Rattle.tdb_world.specs.Courses.Scene.{Scene, scene}
 use Rattle.tdb_answer.specs.Playing.{PlaysEnd, UnlessBroken, OnBroken, RunsTo, PlayedOver}
+use Rattle.tdb_answer.specs.Stops.{StopsOver}
 use Rattle.tdb_answer.proofs.Coming.{unless_map, on_map}
 use Rattle.tdb_answer.proofs.Over.{broken_off, finished}
 use Rattle.tdb_answer.proofs.Stopping.{only_unfinished, stops_broken, stops_finished}
@@ -109,22 +110,29 @@ Sound g c = Rose c.args.world.now.faults c.play_each.new.world.faults → ⊥
 unbroken : (g : _) (c : After-play_each g) → Sound g c → g.D.Disk.tells ≡ true → (state : State) → HasState c.args.world.now state → OnBroken c.play_each.result ⊥
 unbroken g c sound told state is = on_map c.play_each.result sound (c.play_each.ensures.ran.rose told state is)
 
--- what stops leave of them
+-- what stops leave of plays that broke off so
+stops_off : (g : _) (c : After-play_each g) (answer : PlaysEnd) → c.play_each.result ≡ answer
+    → StopsOver c.args.world.now.world g.D.Disk.tells g.K.Sink.tells c.args.plays.now answer (Sound g c) c.args.world.now.history c.play_each.new.world.history c.args.world.now.size c.play_each.new.world.size
+    (g.K.Sink.written c.args.output.now) (g.K.Sink.written c.play_each.new.output)
+stops_off g c answer is =
+    subst (λ (r : PlaysEnd). StopsOver c.args.world.now.world g.D.Disk.tells g.K.Sink.tells c.args.plays.now r (Sound g c) c.args.world.now.history c.play_each.new.world.history c.args.world.now.size c.play_each.new.world.size
+    (g.K.Sink.written c.args.output.now) (g.K.Sink.written c.play_each.new.output)) is
+    (stops_broken g.D.Disk.tells g.K.Sink.tells (start g c) (last g c) c.args.plays.now c.play_each.result c.play_each.ensures.stops (Sound g c) (is_read g c) (unbroken g c))
+
 pub returns-in_err-play_each-clause-stops : goal.returns-in_err-play_each-clause-stops
 returns-in_err-play_each-clause-stops g c =
     let a = (goal.at.returns-in_err-play_each-clause-stops g c).After-play_each in
     let q = err_from_is_err_and c.from_residual.result c.from_residual.ensures.1 in
-    stops_broken g.D.Disk.tells g.K.Sink.tells (start g a) (last g a) c.args.plays.now c.play_each.result c.play_each.ensures.stops _ (Sound g a) (is_read g a) (unbroken g a) (λ is. (let wrong : Err q.0 ≡ Ok (Ok tt) = sym q.1 ∙ is in cc))
+    rw (q.1, q.2) (stops_off g a (Err c.in_err-play_each.field-0.0) c.in_err-play_each.was)
 
 pub returns-in-Err-clause-stops : goal.returns-in-Err-clause-stops
 returns-in-Err-clause-stops g c =
     let a = (goal.at.returns-in-Err-clause-stops g c).After-play_each in
-    let answer : PlaysEnd = Ok (Err c.in-Err.fault) in
-    stops_broken g.D.Disk.tells g.K.Sink.tells (start g a) (last g a) c.args.plays.now c.play_each.result c.play_each.ensures.stops (answer ≡ Ok (Ok tt)) (Sound g a) (is_read g a) (unbroken g a) (λ is. cc)
+    stops_off g a (Ok (Err c.in-Err.fault)) (c.in_ok-play_each.was ∙ ap Ok c.in-Err.is)
 
 pub returns-in-Ok-clause-stops : goal.returns-in-Ok-clause-stops
 returns-in-Ok-clause-stops g c =
     let a = (goal.at.returns-in-Ok-clause-stops g c).After-play_each in
     let e = c.tell_unfinished.ensures.told in
-    stops_finished g.D.Disk.tells g.K.Sink.tells (start g a) (last g a) c.args.plays.now c.play_each.result c.play_each.ensures.stops (c.tell_unfinished.result ≡ Ok (Ok tt)) (Sound g a) (is_read g a) (unbroken g a) e.lines (g.K.Sink.written c.tell_unfinished.new.output)
-    (only_unfinished c.play_each.new.world.world 0 (length c.play_each.new.world.world.openers.openers) e.lines e.is_end) (c.in_ok-play_each.was ∙ ap Ok c.in-Ok.is) e.whole e.front
+    stops_finished g.D.Disk.tells g.K.Sink.tells (start g a) (last g a) c.args.plays.now c.play_each.result c.play_each.ensures.stops (Sound g a) (is_read g a) (unbroken g a) e.lines c.tell_unfinished.result (g.K.Sink.written c.tell_unfinished.new.output)
+    (only_unfinished c.play_each.new.world.world 0 (length c.play_each.new.world.world.openers.openers) e.lines e.is_end) (c.in_ok-play_each.was ∙ ap Ok c.in-Ok.is) c.tell_unfinished.ensures.unbroken e.whole e.front e.cut

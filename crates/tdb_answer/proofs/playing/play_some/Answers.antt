@@ -32,4 +32,4 @@ returns-clause-stops g c =
     (scene b w1 later) c.args.plays.now) (sym c.ended.ensures)
     (stops_of g.D.Disk.tells g.K.Sink.tells a b
     c.new-report.result.lines c.run-played.new.report.lines c.new-report.ensures
-    c.args.plays.now w0 w1 logs later c.run-played.result c.tell-told.result c.run-played.ensures.taken.led c.run-played.ensures.taken.stops c.tell-told.ensures.whole c.tell-told.ensures.front)
+    c.args.plays.now w0 w1 logs later c.run-played.result c.tell-told.result c.run-played.ensures.taken.led c.run-played.ensures.taken.stops c.tell-told.ensures.whole c.tell-told.ensures.front c.tell-told.ensures.memory)

@@ -9,7 +9,7 @@ returns-clause-told g c =
     let before = g.K.Sink.written c.args.output.now in
     let now = g.K.Sink.written c.tell-told.new.output in
     subst (EndTold c.args.world.now.world g.K.Sink.tells before now) (sym c.ended.ensures)
-    (end_told c.args.world.now.world g.K.Sink.tells before now c.new-report.result.lines c.finish_report.new.report.lines c.new-report.ensures c.in-Ok.ensures.ok c.tell-told.result c.tell-told.ensures.whole c.tell-told.ensures.front)
+    (end_told c.args.world.now.world g.K.Sink.tells before now c.new-report.result.lines c.finish_report.new.report.lines c.new-report.ensures c.in-Ok.ensures.ok c.tell-told.result c.tell-told.ensures.whole c.tell-told.ensures.front c.tell-told.ensures.memory)
 
 -- memory was wanting for the report
 pub returns-in_default-clause-told : goal.returns-in_default-clause-told

@@ -1,15 +1,14 @@
 use Rattle.std.proofs.Common.{◌≡◌, Option, None, Some, Ok, map, string_bytes, refl, ◌∙◌, ap, sym, subst}
-use Rattle.std.specs.Prelude.{unwrap_or}
+use Rattle.std.specs.Prelude.{OnErr, unwrap_or}
 use Rattle.tdb_disk.specs.Count.{Rose}
 use Rattle.tdb_cmdline.specs.Ask.{Ask, asked, ask_of}
-use Rattle.tdb_answer.specs.declared.ending.Ending.TheVariants.{Replied, Usage}
-use Rattle.tdb_answer.specs.declared.ending.Reply.TheVariants.{Played}
+use Rattle.tdb_answer.specs.declared.ending.Ending.TheVariants.{Usage}
 use Rattle.tdb_answer.specs.Commands.Session.{SessionHeld}
 use Rattle.tdb_answer.specs.Commands.Turns.{AllPlayed}
 use Rattle.tdb_answer.specs.Looks.{ending_of}
 use Rattle.tdb_answer.specs.Printed.{TaskText}
 use Rattle.tdb_answer.specs.Reads.{ask_reads}
-use Rattle.tdb_answer.specs.Stops.{StopsScripted}
+use Rattle.tdb_answer.specs.Stops.{SaysAllLines, StopsScripted}
 use Rattle.tdb_answer.specs.Takes.{MayTake, ask_takes}
 use Rattle.tdb_answer.proofs.Looking.{began_as}
 use Rattle.tdb_answer.proofs.Runs.{asked_cause}
@@ -39,7 +38,7 @@ returns-in-Ok-Some-clause-answered g c =
           (done.played options (ap (λ (a : Ask). a.task) same) told is));
       stops = λ options name asks told.
           (let same = one_ask ask _ asks in
-          subst (λ n. StopsScripted input options (before.held n) (after.held n) g.K.Sink.tells (r ≡ Ok (Replied Played)) (Rose before.faults after.faults → ⊥) before.written after.written)
+          subst (λ n. StopsScripted input options (before.held n) (after.held n) g.K.Sink.tells (SaysAllLines r) (OnErr r ⊥) (Rose before.faults after.faults → ⊥) before.written after.written)
           (ap (λ (a : Ask). a.file) same) (done.stops options (ap (λ (a : Ask). a.task) same) told));
       served = λ limit name asks told.
           (let same = one_ask ask _ asks in

@@ -1,5 +1,5 @@
-use Rattle.std.proofs.Common.{◌≡◌, true, Ok}
-use Rattle.std.specs.Prelude.{IsTrue}
+use Rattle.std.proofs.Common.{◌≡◌, ◌⊎◌, true, Ok}
+use Rattle.std.specs.Prelude.{◌≢◌, IsTrue, OnErr}
 use Rattle.tdb_disk.specs.Count.{Rose}
 use Rattle.tdb_answer.specs.declared.ending.Ending.TheVariants.{Replied}
 use Rattle.tdb_answer.specs.declared.ending.Reply.TheVariants.{Played}
@@ -8,12 +8,12 @@ use Rattle.tdb_answer.specs.Input.{input_by}
 use Rattle.tdb_answer.specs.Looks.{ending_of}
 use Rattle.tdb_answer.specs.Run.{Run, Cause, Answered, RefusesExactly, LeavesFiles, LogsAreTold, Accounted, run_by}
 use Rattle.tdb_top.specs.SessionStops.{SessionsStopSafely}
-use Rattle.tdb_answer.specs.Stops.{TurnsStopSafely}
+use Rattle.tdb_answer.specs.Stops.{SaysAllLines, TurnsStopSafely}
 use Rattle.tdb_answer.proofs.Runs.{Printed, exits, silent_exits, printed_caused, exactly, refuses_exactly, summary_shown, asked_counted, asked_failed, asked_sound, leaves_files, accounted}
 use Rattle.tdb_top.proofs.SessionRuns.{session_by}
 use Rattle.tdb_top.proofs.SessionsStopped.{held_served}
 use Rattle.tdb_answer.proofs.StopsTurning.{line_behind, stops_when}
-use Rattle.tdb_top.proofs.Whole.{whole_by, zero_played}
+use Rattle.tdb_top.proofs.Whole.{said_by, unfailed_told, whole_by, zero_played}
 use Rattle.tdb_top.proofs.Writing.{written}
 use Rattle.tdb_top.proofs.top.run.Goals as goal
 use Rattle.tdb_top.proofs.top.run.Goals.{After-finish}
@@ -87,12 +87,19 @@ turns_stop g c told options name asks =
     let zero : r.status ≡ 0 → (answered ≡ Ok (Replied Played)) × (IsTrue g.K.Sink.tells → last ≡ text) =
     zero_played options r.input g.K.Sink.tells first text last (g.K.Sink.faults c.args.output.now) f1 f2 r.ask name r.old r.faults_before r.faults_after answered c.finish.ensures.0 c.finish.result.0
     asks (c.answer-answered.ensures.answered.cause told) c.finish.ensures.1 c.finish.ensures.2 in
+    let said : (r.status ≡ 0) ⊎ (r.status ≡ 10) → SaysAllLines answered =
+    said_by g.K.Sink.tells text last f1 f2 answered c.finish.ensures.0 c.finish.result.0 c.finish.ensures.1 c.finish.ensures.2 (λ is. (zero is).0) in
     let stops = c.answer-answered.ensures.answered.stops options name asks told in
     let sound : Type 0 = Rose r.faults_before r.faults_after → ⊥ in (
       text,
       line_behind g.K.Sink.tells text last f1 f2 answered c.finish.ensures.0 c.finish.result.0 c.finish.ensures.2,
       λ is. (zero is).1,
-      (stops.0, stops.1, stops_when options stops.0 (r.old name) (r.now name) g.K.Sink.tells (answered ≡ Ok (Replied Played)) sound (r.status ≡ 0) sound first text (λ is. (zero is).0) (λ so. so) stops.2),
+      (
+        stops.0,
+        stops.1,
+        stops_when options stops.0 (r.old name) (r.now name) g.K.Sink.tells (SaysAllLines answered) (OnErr answered ⊥) sound ((r.status ≡ 0) ⊎ (r.status ≡ 10)) (r.status ≢ 8) sound first text said
+            (unfailed_told g.K.Sink.tells text last f1 f2 answered c.finish.ensures.0 c.finish.result.0 c.finish.ensures.2) (λ so. so) stops.2,
+      ),
     )
 
 -- what stops in a session leave

@@ -1,4 +1,5 @@
-use Rattle.std.proofs.Common.{◌≡◌, ◌∙◌, ℕ, true, Ok, refl, sym, subst}
+use Rattle.std.proofs.Common.{◌≡◌, ◌∙◌, ℕ, true, Result, Ok, refl, sym, subst}
+use Rattle.std.specs.Prelude.{OnErr}
 use Rattle.tdb_disk.specs.Count.{Rose}
 use Rattle.tdb_disk.specs.History.{seen}
 use Rattle.tdb_space.specs.Form.{Form, form_of}
@@ -6,11 +7,13 @@ use Rattle.tdb_commands.specs.declared.options.Options.{Options}
 use Rattle.tdb_world.specs.Whole.{form_at, options_at}
 use Rattle.tdb_check.specs.Report.{Counted}
 use Rattle.tdb_answer.specs.Playing.{PlayedOver, PlayedOn, PlayedFile, file_unplayed, file_played}
-use Rattle.tdb_answer.specs.Stops.{StopsOfTurns}
+use Rattle.tdb_answer.specs.Stops.{SaysAllLines, StopsOfTurns, TellsAllLines}
 use Rattle.tdb_answer.specs.Ending.{CountedIf}
+use Rattle.tdb_answer.specs.declared.ending.Ending.{Ending}
+use Rattle.tdb_answer.specs.declared.ending.Unprinted.{Unprinted}
 use Rattle.tdb_answer.specs.Looks.{ending_of}
 use Rattle.tdb_answer.proofs.Faults.{plays_counted}
-use Rattle.tdb_answer.proofs.StopsTurning.{all_ended, halted_same, unopened_stops, opened_stops}
+use Rattle.tdb_answer.proofs.StopsTurning.{all_said, said_unfailed, halted_same, unopened_stops, opened_stops}
 use Rattle.tdb_answer.proofs.commands.turns.play_on_disk.Goals as goal
 use Rattle.tdb_answer.proofs.commands.turns.play_on_disk.Goals.{After-play_all-disk}
 
@@ -60,7 +63,7 @@ returns-clause-played g c told =
 -- what stops leave where it wasn't opened
 pub returns-in-Err-clause-stops : goal.returns-in-Err-clause-stops
 returns-in-Err-clause-stops g c told opens =
-    unopened_stops c.args.options.now c.args.plays.now (g.D.Disk.history c.args.disk) (g.D.Disk.history c.in-Err.disk) g.K.Sink.tells _ _ (g.K.Sink.written c.args.output.now) opens.can_open (c.in-Err.ensures.halted.stops told)
+    unopened_stops c.args.options.now c.args.plays.now (g.D.Disk.history c.args.disk) (g.D.Disk.history c.in-Err.disk) g.K.Sink.tells _ _ _ (g.K.Sink.written c.args.output.now) opens.can_open (c.in-Err.ensures.halted.stops told)
     (λ sound. halted_same c.args.options.now (g.D.Disk.history c.args.disk) (g.D.Disk.history c.in-Err.disk) c.in-Err.halt (λ is. sound (c.in-Err.ensures.cause.failed is)) (c.in-Err.ensures.halted.opened told))
 
 -- and where it was; loading it made no call fail
@@ -74,9 +77,10 @@ returns-clause-stops g c told opens =
     let O = c.in-Ok.ensures.opened in
     let start = c.in-Ok.ensures.loaded.begun.state told in
     let calm = Sound g a w.faults in
-    opened_stops c.args.options.now c.args.plays.now (g.D.Disk.history c.args.disk) w.history (g.D.Disk.history c.play_all-disk.result.0) g.K.Sink.tells _ (Sound g a (g.D.Disk.faults c.args.disk)) (c.play_all-disk.result.1 ≡ Ok (Ok tt)) calm
-    (g.K.Sink.written c.args.output.now) (g.K.Sink.written c.play_all-disk.new.output) (λ done. all_ended c.play_all-disk.result.1 (sym c.told.ensures ∙ done)) (subst (Sound g a) (sym c.in-Ok.ensures.done)) opens.can_open (O.stops told) (O.opened told).1 (c.in-Ok.ensures.loaded.checked told).accepted
-    (of_file g a told (λ f options. StopsOfTurns f options c.args.plays.now w.history (g.D.Disk.history c.play_all-disk.result.0) g.K.Sink.tells (c.play_all-disk.result.1 ≡ Ok (Ok tt)) calm (g.K.Sink.written c.args.output.now) (g.K.Sink.written c.play_all-disk.new.output))
+    let r = c.play_all-disk.result.1 in
+    opened_stops c.args.options.now c.args.plays.now (g.D.Disk.history c.args.disk) w.history (g.D.Disk.history c.play_all-disk.result.0) g.K.Sink.tells _ _ (Sound g a (g.D.Disk.faults c.args.disk)) (TellsAllLines r) (OnErr r ⊥) calm
+    (g.K.Sink.written c.args.output.now) (g.K.Sink.written c.play_all-disk.new.output) (λ said. all_said r (subst SaysAllLines c.told.ensures said)) (λ un. said_unfailed r (subst (λ (x : Result Ending Unprinted). OnErr x ⊥) c.told.ensures un)) (subst (Sound g a) (sym c.in-Ok.ensures.done)) opens.can_open (O.stops told) (O.opened told).1 (c.in-Ok.ensures.loaded.checked told).accepted
+    (of_file g a told (λ f options. StopsOfTurns f options c.args.plays.now w.history (g.D.Disk.history c.play_all-disk.result.0) g.K.Sink.tells (TellsAllLines r) (OnErr r ⊥) calm (g.K.Sink.written c.args.output.now) (g.K.Sink.written c.play_all-disk.new.output))
     (c.play_all-disk.ensures.stops told start.0 start.1))
 
 -- how often the disk had failed then

@@ -1,10 +1,10 @@
 use Rattle.std.proofs.Common.{◌≡◌, [], ◌<◌, true, Ok, Err, Some, refl, sym, ◌∙◌, ap, arith}
+use Rattle.std.specs.Prelude.{OnErr}
 use Rattle.std.proofs.lemmas.Bool.{and_parts}
 use Rattle.tdb_disk.specs.Count.{Rose}
 use Rattle.tdb_disk.specs.History.{began}
 use Rattle.tdb_disk.specs.declared.files.Take.TheVariants.{Existing, ReadOnly, New}
-use Rattle.tdb_answer.specs.declared.ending.Ending.TheVariants.{Replied}
-use Rattle.tdb_answer.specs.declared.ending.Reply.TheVariants.{Played}
+use Rattle.tdb_answer.specs.Stops.{SaysAllLines}
 use Rattle.tdb_answer.proofs.Acting.{rose_earlier}
 use Rattle.tdb_answer.proofs.Held.{held_there}
 use Rattle.tdb_answer.proofs.StopsTurning.{held_stops, same_stops, stops_when}
@@ -65,11 +65,12 @@ returns-in-Ok-clause-stops g c told =
     let given = g.F.Files.held c.give.new.self c.args.name.now in
     let before = g.K.Sink.written c.args.output.now in
     let after = g.K.Sink.written c.play_on_disk-disk.new.output in
-    let done = c.play_on_disk-disk.result.1 ≡ Ok (Replied Played) in
+    let done = SaysAllLines c.play_on_disk-disk.result.1 in
+    let unfailed : Type 0 = OnErr c.play_on_disk-disk.result.1 ⊥ in
     let sound : Type 0 = Rose (g.F.D.Disk.faults c.in-Ok.disk) (g.F.D.Disk.faults c.play_on_disk-disk.result.0) → ⊥ in
     let calm : Type 0 = Rose (g.F.Files.faults c.args.files.now) (g.F.Files.faults c.give.new.self) → ⊥ in
-    stops_when c.args.options.now c.args.plays.now held given g.K.Sink.tells done sound done calm before after (λ so. so) (λ so failed. so (rose g a failed))
-    (held_stops c.args.options.now c.args.plays.now held given g.K.Sink.tells done sound (g.F.D.Disk.history c.in-Ok.disk) (g.F.D.Disk.history c.play_on_disk-disk.result.0) before after (there g a told) (c.give.ensures.held told) (c.play_on_disk-disk.ensures.stops told))
+    stops_when c.args.options.now c.args.plays.now held given g.K.Sink.tells done unfailed sound done unfailed calm before after (λ so. so) (λ so. so) (λ so failed. so (rose g a failed))
+    (held_stops c.args.options.now c.args.plays.now held given g.K.Sink.tells done unfailed sound (g.F.D.Disk.history c.in-Ok.disk) (g.F.D.Disk.history c.play_on_disk-disk.result.0) before after (there g a told) (c.give.ensures.held told) (c.play_on_disk-disk.ensures.stops told))
 
 pub returns-in-Ok-clause-logged : goal.returns-in-Ok-clause-logged
 returns-in-Ok-clause-logged g c told =
@@ -91,4 +92,4 @@ returns-in-Err-clause-cause g c told =
 
 pub returns-in-Err-clause-stops : goal.returns-in-Err-clause-stops
 returns-in-Err-clause-stops g c told =
-    same_stops c.args.options.now c.args.plays.now (g.F.Files.held c.args.files.now c.args.name.now) (g.F.Files.held c.take.new.self c.args.name.now) g.K.Sink.tells _ _ (g.K.Sink.written c.args.output.now) (c.in-Err.ensures.refused_held c.args.name.now)
+    same_stops c.args.options.now c.args.plays.now (g.F.Files.held c.args.files.now c.args.name.now) (g.F.Files.held c.take.new.self c.args.name.now) g.K.Sink.tells _ _ _ (g.K.Sink.written c.args.output.now) (c.in-Err.ensures.refused_held c.args.name.now)

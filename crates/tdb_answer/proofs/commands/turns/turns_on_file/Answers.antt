@@ -35,7 +35,7 @@ returns-in-Ok-clause-stops g c told =
 pub returns-in-Err-clause-stops : goal.returns-in-Err-clause-stops
 returns-in-Err-clause-stops g c told =
     let input = input_by g.S.Source.tells (g.S.Source.left c.args.input.now) (g.S.Source.faults c.args.input.now) (g.S.Source.faults c.plays_on.new.input) in
-    unscripted_stops input c.args.options.now (g.F.Files.held c.args.files.now c.args.name.now) g.K.Sink.tells _ _ (g.K.Sink.written c.args.output.now)
+    unscripted_stops input c.args.options.now (g.F.Files.held c.args.files.now c.args.name.now) g.K.Sink.tells _ _ _ (g.K.Sink.written c.args.output.now)
 
 -- what logs heard where there is none
 pub returns-in-Err-clause-logged : goal.returns-in-Err-clause-logged
