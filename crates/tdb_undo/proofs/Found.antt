@@ -1,9 +1,9 @@
 -- The faults of an undo area by what was read of it, and the recovery of the whole image.
-use Rattle.std.proofs.Common.{◌≡◌, ◌≢◌, ℕ, ◌+◌, ◌<◌, ◌≤◌, ◌⊎◌, ◌%◌, ◌&&◌, Bool, true, false, Option, Some, None, List, length, take, drop, slice_index, not, refl, sym, ◌∙◌, ap, subst, inl, inr, arith}
+use Rattle.std.proofs.Common.{◌≡◌, ◌≢◌, ℕ, ◌+◌, ◌*◌, ◌<◌, ◌≤◌, ◌⊎◌, ◌%◌, ◌&&◌, Bool, true, false, Option, Some, None, List, length, take, drop, slice_index, not, refl, sym, ◌∙◌, ap, subst, inl, inr, arith}
 use Rattle.std.specs.Prelude.{nat_lt, ◌==◌, if◌then◌else◌}
 use Rattle.std.proofs.lemmas.Bool.{le-ltb, or_left, or_right, and_left, and_right, and_cases, not-false, not_from_true, lt-ltb, eq-eqb, ne_eqb, eqb-true}
 use Rattle.std.proofs.lemmas.List.{get_or-take, get_or-drop}
-use Rattle.tdb_disk.specs.Count.{RoseBy}
+use Rattle.tdb_disk.specs.Count.{RoseBy, RoseUpTo}
 use Rattle.tdb_disk.specs.History.{History, seen}
 use Rattle.tdb_disk.specs.Stop.{Quiet, LeavesOnly}
 use Rattle.tdb_disk.proofs.Runs.{leaves_quiet}
@@ -12,7 +12,7 @@ use Rattle.tdb_words.specs.declared.what.What.TheVariants.{AreaBad, UndoBad}
 use Rattle.tdb_words.specs.Word.{word}
 use Rattle.tdb_words.specs.Record.{rec_at}
 use Rattle.tdb_space.specs.Form.{Form, form_of, data_start}
-use Rattle.tdb_space.specs.Record.{magic_of, rec_len_of}
+use Rattle.tdb_space.specs.Record.{magic_of, rec_len_of, data_len_of}
 use Rattle.tdb_space.specs.Accepted.{Shut, Accept}
 use Rattle.tdb_space.specs.FirstFault.{Fault, is_out, is_long}
 use Rattle.tdb_space.specs.Opening.{entries, entries_end, entry_fault, undo_fault, is_bad_cut, Undoable, is_open, last_covering, given_back, restored, Opens, Mild}
@@ -30,6 +30,7 @@ use Rattle.tdb_undo.specs.declared.refusal.UndoRefusal.TheVariants.{UndoBad as U
 use Rattle.tdb_undo.specs.Refusal.{Names, IsIo}
 use Rattle.tdb_undo.specs.Recovery.{ReadFrom, recovery_syncs, Undoing, alike, exact, tail}
 use Rattle.tdb_undo.specs.Entries.{entries_in, entries_stop, lengths}
+use Rattle.tdb_undo.specs.Reads.{entries_reads, recovery_reads}
 use Rattle.tdb_undo.proofs.Whole.{same_header, same_entries, same_end, same_old}
 
 -- the first of two faults, where there is one
@@ -222,3 +223,11 @@ pub open_syncs : (f : Form) (a : List ℕ) (area : Area) → IsAreaOf f.order a 
     → ((area.at < area.header.key_len) × RoseBy 3 before now) ⊎ ((area.header.key_len ≤ area.at) × RoseBy 6 before now) → RoseBy (recovery_syncs f a) before now
 open_syncs f a area is opened before now (inl below) = rw opened (rw (lt-ltb (area_at f a) (old_size f a) (omega (arith, below.0, is.there, same_old f a area is))) below.1)
 open_syncs f a area is opened before now (inr behind) = rw opened (rw (le-ltb (area_at f a) (old_size f a) (omega (arith, behind.0, is.there, same_old f a area is))) behind.1)
+
+-- what was read: the area's place and header, and what the undo reads
+pub open_reads : (f : Form) (a : List ℕ) (area : Area) → IsAreaOf f.order a area → is_open f a ≡ true → (before middle now : ℕ)
+    → RoseUpTo 28 before middle → RoseUpTo (64 + 2 * entries_reads area.header.data_len) middle now → RoseUpTo (recovery_reads f a) before now
+open_reads f a area is opened before middle now found undone =
+    let whole : recovery_reads f a ≡ 28 + (64 + 2 * entries_reads (data_len_of f.order a (area_at f a))) = rw opened refl in
+    let content : area.header.data_len ≡ data_len_of f.order a (area_at f a) = λ j. (same_header f a area is j).data_len in
+    record { no_more = omega (arith, whole, content, found.no_more, undone.no_more); never_falls = omega (arith, found.never_falls, undone.never_falls) }

@@ -6,6 +6,7 @@ pub mod Entries
 pub mod Front
 pub mod Gate
 pub mod Recovery
+pub mod Reads
 pub mod Placing
 pub mod Content
 pub mod Growth

@@ -1,7 +1,7 @@
 // The undo area of a file: where it stands, and what its header says.
 
 ghost use Rattle.std.specs.Prelude.{◌≡◌, ◌+◌, ◌*◌, ◌≤◌, ◌||◌, not, nat_lt, IsTrue, IfOk, IfErr, IfSome, None, Some};
-ghost use Rattle.tdb_disk.specs.Count.{HasCauseOf};
+ghost use Rattle.tdb_disk.specs.Count.{HasCauseOf, RoseUpTo};
 ghost use Rattle.tdb_disk.specs.History.{seen};
 ghost use Rattle.tdb_space.specs.Form.{form_in};
 ghost use Rattle.tdb_undo.specs.Refusal.{Names};
@@ -105,6 +105,7 @@ pub(crate) fn read_area<D: Disk>(d: &mut D, h: &Header) -> Result<Option<Area>, 
     ensures size { D.size d.new ≡ D.size d.old }
     ensures cause { HasCauseOf UndoRefusal.Io (D.faults d.old) (D.faults d.new) result }
     ensures syncs { D.syncs d.new ≡ D.syncs d.old }
+    ensures bytes_read { RoseUpTo 28 (D.bytes_read d.old) (D.bytes_read d.new) }
 {
     let len = d.len()?;
     let mut word = [0u8; 4];

@@ -13,6 +13,7 @@ ghost use Rattle.tdb_undo.specs.Area.{area_of};
 ghost use Rattle.tdb_undo.specs.Torn.{TornIn};
 ghost use Rattle.tdb_undo.specs.Growth.{GrewAtMost};
 ghost use Rattle.tdb_undo.specs.Content.{EntryPut, HasRoom, RunsFit, AllPut, is_content, IsFilled};
+ghost use Rattle.tdb_undo.specs.Reads.{run_bytes};
 
 use crate::area::{Area, HEADER_LEN, OLD_LEN, read_area};
 use crate::pieces::{BLOCK, copy_bytes};
@@ -51,6 +52,7 @@ fn put_entry<D: Disk>(
     ensures size { D.size d.new ≡ D.size d.old }
     ensures cause { HasCause (D.faults d.old) (D.faults d.new) result }
     ensures syncs { D.syncs d.new ≡ D.syncs d.old }
+    ensures bytes_read { RoseUpTo run.1 (D.bytes_read d.old) (D.bytes_read d.new) }
 {
     let (off, len) = run;
     let words = two_words(off, len, order);
@@ -87,6 +89,7 @@ fn put_runs<D: Disk>(
     ensures size { D.size d.new ≡ D.size d.old }
     ensures cause { HasCause (D.faults d.old) (D.faults d.new) result }
     ensures syncs { D.syncs d.new ≡ D.syncs d.old }
+    ensures bytes_read { RoseUpTo (run_bytes runs.now) (D.bytes_read d.old) (D.bytes_read d.new) }
 {
     let mut block = [0u8; BLOCK];
     let mut place = area.at as u64 + HEADER_LEN;
@@ -126,6 +129,7 @@ fn fill_area<D: Disk>(
     ensures size { D.size d.new ≡ D.size d.old }
     ensures cause { HasCause (D.faults d.old) (D.faults d.new) result }
     ensures syncs { RoseUpTo 1 (D.syncs d.old) (D.syncs d.new) }
+    ensures bytes_read { RoseUpTo (run_bytes runs.now) (D.bytes_read d.old) (D.bytes_read d.new) }
 {
     let Some(place) = put_runs(d, order, area, len, runs)? else {
         return Ok(());
@@ -144,7 +148,7 @@ fn fill_area<D: Disk>(
 
 /// Fills the undo area of an accepted file, whose gate is shut: the content gets an entry for each run, in their order,
 /// with the bytes that the file has there, and the header says that the file was `old_len` bytes long. All of it ends
-/// with one sync. It takes time linear in the content, and no memory.
+/// with one sync. It takes time linear in the content, and no memory. It reads 28 bytes at most, and the runs once.
 ///
 /// The disk is quiet, or its file has grown since then to a multiple of 4, with no further sync and no other change. A
 /// stop then leaves a file that opens to the same map, also where the call fails. The runs lie beside the area, and
@@ -159,6 +163,7 @@ pub fn put_content<D: Disk>(d: &mut D, h: &Header, old_len: u32, runs: &Runs) ->
     ensures size { D.size d.new ≡ D.size d.old }
     ensures cause { HasCause (D.faults d.old) (D.faults d.new) result }
     ensures syncs { RoseUpTo 1 (D.syncs d.old) (D.syncs d.new) }
+    ensures bytes_read { RoseUpTo (28 + run_bytes runs.now) (D.bytes_read d.old) (D.bytes_read d.new) }
 {
     let len = d.len()?;
     match read_area(d, h) {

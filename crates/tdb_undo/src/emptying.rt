@@ -30,6 +30,7 @@ pub(crate) fn blank_header<D: Disk>(d: &mut D, order: Order, at: u32) -> Result<
     ensures size { D.size d.new ≡ D.size d.old }
     ensures cause { HasCause (D.faults d.old) (D.faults d.new) result }
     ensures syncs { OnOk result (RoseBy 1 (D.syncs d.old) (D.syncs d.new)) }
+    ensures bytes_read { D.bytes_read d.new ≡ D.bytes_read d.old }
 {
     for k in 0..WORDS_BEFORE_GATE {
         d.write_word(at as u64 + 4 * k, [0; 4])?;
@@ -47,6 +48,7 @@ pub(crate) fn zero_content<D: Disk>(d: &mut D, area: &Area) -> Result<(), Io>
     ensures size { D.size d.new ≡ D.size d.old }
     ensures cause { HasCause (D.faults d.old) (D.faults d.new) result }
     ensures syncs { OnOk result (RoseBy 1 (D.syncs d.old) (D.syncs d.new)) }
+    ensures bytes_read { D.bytes_read d.new ≡ D.bytes_read d.old }
 {
     zero_bytes(d, area.at as u64 + HEADER_LEN, area.header.rec_len as u64)?;
     d.sync()?;
@@ -66,6 +68,7 @@ pub(crate) fn empty_area<D: Disk>(d: &mut D, h: &Header, area: &Area) -> Result<
     ensures size { D.size d.new ≡ D.size d.old }
     ensures cause { HasCause (D.faults d.old) (D.faults d.new) result }
     ensures syncs { OnOk result (RoseBy 2 (D.syncs d.old) (D.syncs d.new)) }
+    ensures bytes_read { D.bytes_read d.new ≡ D.bytes_read d.old }
 {
     zero_content(d, area)?;
     blank_header(d, h.order, area.at)?;
@@ -86,6 +89,7 @@ pub(crate) fn drop_area<D: Disk>(d: &mut D, h: &Header, area: &Area) -> Result<(
     ensures quiet { OnOk result (IsTrue D.tells → Quiet (D.history d.new)) }
     ensures cause { HasCause (D.faults d.old) (D.faults d.new) result }
     ensures syncs { OnOk result (RoseBy 2 (D.syncs d.old) (D.syncs d.new)) }
+    ensures bytes_read { D.bytes_read d.new ≡ D.bytes_read d.old }
 {
     d.write_word(RECOVERY_START, [0; 4])?;
     d.sync()?;

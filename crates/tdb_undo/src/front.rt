@@ -34,6 +34,7 @@ pub(crate) fn write_front<D: Disk>(
     ensures size { D.size d.new ≡ D.size d.old }
     ensures cause { HasCause (D.faults d.old) (D.faults d.new) result }
     ensures syncs { D.syncs d.new ≡ D.syncs d.old }
+    ensures bytes_read { D.bytes_read d.new ≡ D.bytes_read d.old }
 {
     for i in 0..FRONT_LEN {
         if becomes_another(i, before, after) {

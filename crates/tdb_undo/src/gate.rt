@@ -28,6 +28,7 @@ fn set_gate<D: Disk>(d: &mut D, h: &Header, gate: u32) -> Result<(), Io>
     ensures cause { HasCause (D.faults d.old) (D.faults d.new) result }
     ensures syncs { OnOk result (IsTrue D.tells → HasGate (form_in h.now) (seen (D.history d.old)) → RoseBy 1 (D.syncs d.old) (D.syncs d.new)) }
     ensures at_most { RoseUpTo 1 (D.syncs d.old) (D.syncs d.new) }
+    ensures bytes_read { RoseUpTo 4 (D.bytes_read d.old) (D.bytes_read d.new) }
 {
     let len = d.len()?;
     let mut word = [0u8; 4];
@@ -53,6 +54,7 @@ pub fn open_gate<D: Disk>(d: &mut D, h: &Header) -> Result<(), Io>
     ensures size { D.size d.new ≡ D.size d.old }
     ensures cause { HasCause (D.faults d.old) (D.faults d.new) result }
     ensures at_most { RoseUpTo 1 (D.syncs d.old) (D.syncs d.new) }
+    ensures bytes_read { RoseUpTo 4 (D.bytes_read d.old) (D.bytes_read d.new) }
 {
     set_gate(d, h, GATE_OPEN)?;
     Ok(())
@@ -69,6 +71,7 @@ pub fn shut_gate<D: Disk>(d: &mut D, h: &Header) -> Result<(), Io>
     ensures size { D.size d.new ≡ D.size d.old }
     ensures cause { HasCause (D.faults d.old) (D.faults d.new) result }
     ensures at_most { RoseUpTo 1 (D.syncs d.old) (D.syncs d.new) }
+    ensures bytes_read { RoseUpTo 4 (D.bytes_read d.old) (D.bytes_read d.new) }
 {
     set_gate(d, h, GATE_SHUT)?;
     Ok(())

@@ -1,7 +1,7 @@
 // All that the undo area keeps is written back.
 
 ghost use Rattle.std.specs.Prelude.{◌≡◌, ◌+◌, ◌%◌, ◌^◌, ◌<◌, ◌≤◌, IsTrue, IfErr, OnOk, length};
-ghost use Rattle.tdb_disk.specs.Count.{HasCauseOf};
+ghost use Rattle.tdb_disk.specs.Count.{HasCauseOf, RoseUpTo};
 ghost use Rattle.tdb_disk.specs.History.{seen};
 ghost use Rattle.tdb_disk.specs.Stop.{LeavesOnly, Quiet};
 ghost use Rattle.tdb_space.specs.Form.{form_in, SameHeader};
@@ -9,6 +9,7 @@ ghost use Rattle.tdb_space.specs.Opening.{Undoable, restored};
 ghost use Rattle.tdb_space.specs.Undoing.{UndoneAlike, Written};
 ghost use Rattle.tdb_undo.specs.Refusal.{IsIo};
 ghost use Rattle.tdb_undo.specs.Recovery.{ReadFrom};
+ghost use Rattle.tdb_undo.specs.Reads.{entries_reads};
 
 use crate::area::Area;
 use crate::front::write_front;
@@ -41,6 +42,7 @@ pub(crate) fn give_all<D: Disk>(
     ensures size { D.size d.new ≡ D.size d.old }
     ensures cause { HasCauseOf UndoRefusal.Io (D.faults d.old) (D.faults d.new) result }
     ensures syncs { D.syncs d.new ≡ D.syncs d.old }
+    ensures bytes_read { RoseUpTo (entries_reads area.now.header.data_len) (D.bytes_read d.old) (D.bytes_read d.new) }
 {
     write_entries(d, h.order, area)?;
     write_front(d, before, after)?;

@@ -1,7 +1,7 @@
 // Runs of bytes that are copied or made zero, a block at a time.
 
 ghost use Rattle.std.specs.Prelude.{◌≡◌, ◌+◌, ◌-◌, ◌^◌, ◌<◌, ◌≤◌, ◌⊎◌, IsTrue, OnOk, slice_index};
-ghost use Rattle.tdb_disk.specs.Count.{HasCause};
+ghost use Rattle.tdb_disk.specs.Count.{HasCause, RoseUpTo};
 ghost use Rattle.tdb_disk.specs.History.{seen};
 ghost use Rattle.tdb_disk.specs.Stop.{LeavesOnly};
 ghost use Rattle.tdb_space.specs.Opening.{lies_in};
@@ -31,6 +31,7 @@ pub(crate) fn copy_bytes<D: Disk>(
     ensures size { D.size d.new ≡ D.size d.old }
     ensures cause { HasCause (D.faults d.old) (D.faults d.new) result }
     ensures syncs { D.syncs d.new ≡ D.syncs d.old }
+    ensures bytes_read { RoseUpTo count (D.bytes_read d.old) (D.bytes_read d.new) }
 {
     let mut done = 0;
     while done < count {
@@ -52,6 +53,7 @@ pub(crate) fn zero_bytes<D: Disk>(d: &mut D, from: u64, count: u64) -> Result<()
     ensures size { D.size d.new ≡ D.size d.old }
     ensures cause { HasCause (D.faults d.old) (D.faults d.new) result }
     ensures syncs { D.syncs d.new ≡ D.syncs d.old }
+    ensures bytes_read { D.bytes_read d.new ≡ D.bytes_read d.old }
 {
     let zeros = [0u8; BLOCK];
     let mut done = 0;

@@ -1,7 +1,7 @@
 // A new undo area is placed behind the end of the file.
 
 ghost use Rattle.std.specs.Prelude.{◌≡◌, ◌+◌, ◌%◌, ◌^◌, ◌<◌, ◌≤◌, ◌⊎◌, IsTrue, OnOk, length};
-ghost use Rattle.tdb_disk.specs.Count.{HasCause, RoseBy};
+ghost use Rattle.tdb_disk.specs.Count.{HasCause, RoseBy, RoseUpTo};
 ghost use Rattle.tdb_disk.specs.History.{seen};
 ghost use Rattle.tdb_disk.specs.Stop.{LeavesOnly, Quiet};
 ghost use Rattle.tdb_space.specs.Form.{form_in, form_of};
@@ -32,6 +32,7 @@ fn place_area<D: Disk>(d: &mut D, order: Order, at: u32, capacity: u32) -> Resul
     ensures size { OnOk result (D.size d.new ≡ at + 24 + capacity) }
     ensures cause { HasCause (D.faults d.old) (D.faults d.new) result }
     ensures syncs { OnOk result (RoseBy 3 (D.syncs d.old) (D.syncs d.new)) }
+    ensures bytes_read { D.bytes_read d.new ≡ D.bytes_read d.old }
 {
     d.grow(at as u64 + HEADER_LEN + capacity as u64)?;
     d.sync()?;
@@ -54,6 +55,7 @@ fn clear_area<D: Disk>(d: &mut D, h: &Header) -> Result<(), Io>
     ensures cause { HasCause (D.faults d.old) (D.faults d.new) result }
     ensures syncs { OnOk result ((D.syncs d.new ≡ D.syncs d.old) ⊎ RoseBy 2 (D.syncs d.old) (D.syncs d.new)) }
     ensures as_often { OnOk result (IsTrue D.tells → let a = seen (D.history d.old) in Accept a → form_of a ≡ form_in h.now → RoseBy (clearing_syncs h.now.order a) (D.syncs d.old) (D.syncs d.new)) }
+    ensures bytes_read { RoseUpTo 28 (D.bytes_read d.old) (D.bytes_read d.new) }
 {
     match read_area(d, h) {
         Ok(Some(area)) => {
@@ -72,7 +74,7 @@ fn clear_area<D: Disk>(d: &mut D, h: &Header) -> Result<(), Io>
 /// Offsets and lengths are in bytes.
 ///
 /// A stop leaves a file that opens to the same map, also where the call fails. It takes three syncs, and two more where
-/// there was an area, and time linear in the content of the old one.
+/// there was an area, and time linear in the content of the old one. It reads 28 bytes at most.
 pub fn ensure<D: Disk>(d: &mut D, h: &Header, capacity: u32, at: u64) -> Result<(), Io>
     requires heads { 48 ≤ D.size d.old }
     requires aligned { at % 4 ≡ 0 }
@@ -87,6 +89,7 @@ pub fn ensure<D: Disk>(d: &mut D, h: &Header, capacity: u32, at: u64) -> Result<
     ensures cause { HasCause (D.faults d.old) (D.faults d.new) result }
     ensures syncs { OnOk result (RoseBy 3 (D.syncs d.old) (D.syncs d.new) ⊎ RoseBy 5 (D.syncs d.old) (D.syncs d.new)) }
     ensures as_often { OnOk result (IsTrue D.tells → let a = seen (D.history d.old) in Accept a → form_of a ≡ form_in h.now → RoseBy (clearing_syncs h.now.order a + 3) (D.syncs d.old) (D.syncs d.new)) }
+    ensures bytes_read { RoseUpTo 28 (D.bytes_read d.old) (D.bytes_read d.new) }
 {
     clear_area(d, h)?;
     place_area(d, h.order, at as u32, capacity)?;

@@ -14,6 +14,7 @@ ghost use Rattle.tdb_undo.specs.Area.{place_fault, IsAreaOf, Stands};
 ghost use Rattle.tdb_undo.specs.Entries.{lengths};
 ghost use Rattle.tdb_undo.specs.Recovery.{ReadFrom, Undoing, recovery_syncs};
 ghost use Rattle.tdb_words.specs.declared.record.TheConstants.{GATE_OPEN as OPEN};
+ghost use Rattle.tdb_undo.specs.Reads.{entries_reads, recovery_reads};
 
 use crate::area::{Area, read_area};
 use crate::giving::give_all;
@@ -34,6 +35,7 @@ pub fn needs_recovery<D: Disk>(d: &mut D, h: &Header) -> Result<bool, UndoRefusa
     ensures size { D.size d.new ≡ D.size d.old }
     ensures cause { HasCauseOf UndoRefusal.Io (D.faults d.old) (D.faults d.new) result }
     ensures syncs { D.syncs d.new ≡ D.syncs d.old }
+    ensures bytes_read { RoseUpTo 28 (D.bytes_read d.old) (D.bytes_read d.new) }
 {
     match read_area(d, h)? {
         Some(area) => Ok(area.header.magic == GATE_OPEN),
@@ -67,6 +69,7 @@ fn write_back<D: Disk>(
     ensures quiet { OnOk result (IsTrue D.tells → Quiet (D.history d.new)) }
     ensures cause { HasCauseOf UndoRefusal.Io (D.faults d.old) (D.faults d.new) result }
     ensures syncs { OnOk result (((area.now.at < area.now.header.key_len) × RoseBy 3 (D.syncs d.old) (D.syncs d.new)) ⊎ ((area.now.header.key_len ≤ area.now.at) × RoseBy 6 (D.syncs d.old) (D.syncs d.new))) }
+    ensures bytes_read { RoseUpTo (entries_reads area.now.header.data_len) (D.bytes_read d.old) (D.bytes_read d.new) }
 {
     give_all(d, h, area, before, after)?;
     if area.at < area.header.key_len {
@@ -92,6 +95,7 @@ fn undo<D: Disk>(d: &mut D, h: &Header, area: &Area) -> Result<u64, UndoRefusal>
     ensures quiet { OnOk result (IsTrue D.tells → Quiet (D.history d.new)) }
     ensures cause { HasCauseOf UndoRefusal.Io (D.faults d.old) (D.faults d.new) result }
     ensures syncs { OnOk result (((area.now.at < area.now.header.key_len) × RoseBy 3 (D.syncs d.old) (D.syncs d.new)) ⊎ ((area.now.header.key_len ≤ area.now.at) × RoseBy 6 (D.syncs d.old) (D.syncs d.new))) }
+    ensures bytes_read { RoseUpTo (64 + 2 * entries_reads area.now.header.data_len) (D.bytes_read d.old) (D.bytes_read d.new) }
 {
     let len = d.len()?;
     if let Some((what, at)) = area.content_fault(len, h.hash_size) {
@@ -111,7 +115,7 @@ fn undo<D: Disk>(d: &mut D, h: &Header, area: &Area) -> Result<u64, UndoRefusal>
 ///
 /// `UndoBad` tells the first fault that the opening of the undo area meets; nothing is written then, nor where the gate
 /// isn't open, whatever the answer is. All is tested before anything is written. It takes time linear in what the area
-/// keeps, reads that twice, and takes no memory. After an undo three syncs were made where the area stands below the
+/// keeps, goes through that twice, and takes no memory. After an undo three syncs were made where the area stands below the
 /// file's old length, and else six: so bytes are told only where an undo was made, whatever the file tells.
 pub fn recover<D: Disk>(d: &mut D, h: &Header) -> Result<u64, UndoRefusal>
     requires heads { 48 ≤ D.size d.old }
@@ -128,6 +132,7 @@ pub fn recover<D: Disk>(d: &mut D, h: &Header) -> Result<u64, UndoRefusal>
     ensures syncs { OnOk result (IsTrue D.tells → RoseBy (recovery_syncs (form_in h.now) (seen (D.history d.old))) (D.syncs d.old) (D.syncs d.new)) }
     ensures at_most { OnOk result (RoseUpTo 6 (D.syncs d.old) (D.syncs d.new)) }
     ensures made { IfOk result (λ n. n ≢ 0 → RoseBy 3 (D.syncs d.old) (D.syncs d.new) ⊎ RoseBy 6 (D.syncs d.old) (D.syncs d.new)) }
+    ensures reads { IsTrue D.tells → RoseUpTo (recovery_reads (form_in h.now) (seen (D.history d.old))) (D.bytes_read d.old) (D.bytes_read d.new) }
 {
     let Some(area) = read_area(d, h)? else {
         return Ok(0);

@@ -1,11 +1,12 @@
 // The test of what the undo area keeps, before anything of it is written.
 
 ghost use Rattle.std.specs.Prelude.{◌≡◌, ◌+◌, ◌<◌, ◌≤◌, ℕ, IsTrue, IfOk, IfErr, OnOk, None, Some, slice_index, take, drop};
-ghost use Rattle.tdb_disk.specs.Count.{HasCause, HasCauseOf};
+ghost use Rattle.tdb_disk.specs.Count.{HasCause, HasCauseOf, RoseUpTo};
 ghost use Rattle.tdb_disk.specs.History.{seen};
 ghost use Rattle.tdb_space.specs.Opening.{Entry, entry_fault, last_covering, given_back};
 ghost use Rattle.tdb_undo.specs.Refusal.{Names};
 ghost use Rattle.tdb_undo.specs.Entries.{entries_in, entries_stop, lengths, one_back};
+ghost use Rattle.tdb_undo.specs.Reads.{entries_reads};
 
 use crate::area::{Area, HEADER_LEN};
 use crate::refusal::UndoRefusal;
@@ -32,6 +33,7 @@ fn take_front<D: Disk>(
     ensures size { D.size d.new ≡ D.size d.old }
     ensures cause { HasCause (D.faults d.old) (D.faults d.new) result }
     ensures syncs { D.syncs d.new ≡ D.syncs d.old }
+    ensures bytes_read { RoseUpTo len (D.bytes_read d.old) (D.bytes_read d.new) }
 {
     let from = off as usize;
     if from >= FRONT_LEN {
@@ -63,6 +65,7 @@ pub(crate) fn test_entries<D: Disk>(
     ensures size { D.size d.new ≡ D.size d.old }
     ensures cause { HasCauseOf UndoRefusal.Io (D.faults d.old) (D.faults d.new) result }
     ensures syncs { D.syncs d.new ≡ D.syncs d.old }
+    ensures bytes_read { RoseUpTo (entries_reads area.now.header.data_len) (D.bytes_read d.old) (D.bytes_read d.new) }
 {
     let start = area.at as u64 + HEADER_LEN;
     let end = start + area.header.data_len as u64;

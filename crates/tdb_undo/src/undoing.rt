@@ -28,6 +28,7 @@ fn blank_past<D: Disk>(d: &mut D, area: &Area, len: u64) -> Result<(), Io>
     ensures size { D.size d.new ≡ D.size d.old }
     ensures cause { HasCause (D.faults d.old) (D.faults d.new) result }
     ensures syncs { D.syncs d.new ≡ D.syncs d.old }
+    ensures bytes_read { D.bytes_read d.new ≡ D.bytes_read d.old }
 {
     let old = area.header.key_len as u64;
     zero_bytes(d, old, area.at as u64 - old)?;
@@ -48,6 +49,7 @@ pub(crate) fn undo_below<D: Disk>(d: &mut D, h: &Header, area: &Area) -> Result<
     ensures quiet { OnOk result (IsTrue D.tells → Quiet (D.history d.new)) }
     ensures cause { HasCause (D.faults d.old) (D.faults d.new) result }
     ensures syncs { OnOk result (RoseBy 3 (D.syncs d.old) (D.syncs d.new)) }
+    ensures bytes_read { D.bytes_read d.new ≡ D.bytes_read d.old }
 {
     d.sync()?;
     d.cut(area.header.key_len as u64)?;
@@ -72,6 +74,7 @@ fn shut_behind<D: Disk>(d: &mut D, h: &Header, area: &Area, len: u64) -> Result<
     ensures size { D.size d.new ≡ D.size d.old }
     ensures cause { HasCause (D.faults d.old) (D.faults d.new) result }
     ensures syncs { OnOk result (RoseBy 2 (D.syncs d.old) (D.syncs d.new)) }
+    ensures bytes_read { D.bytes_read d.new ≡ D.bytes_read d.old }
 {
     blank_past(d, area, len)?;
     d.sync()?;
@@ -95,6 +98,7 @@ pub(crate) fn undo_behind<D: Disk>(d: &mut D, h: &Header, area: &Area, len: u64)
     ensures quiet { OnOk result (IsTrue D.tells → Quiet (D.history d.new)) }
     ensures cause { HasCause (D.faults d.old) (D.faults d.new) result }
     ensures syncs { OnOk result (RoseBy 6 (D.syncs d.old) (D.syncs d.new)) }
+    ensures bytes_read { D.bytes_read d.new ≡ D.bytes_read d.old }
 {
     shut_behind(d, h, area, len)?;
     empty_area(d, h, area)?;

@@ -1,11 +1,11 @@
 // A window over the content of the undo area, through which the headers of its entries are read a block at a time.
 
-ghost use Rattle.std.specs.Prelude.{◌≡◌, ◌+◌, ◌^◌, ◌<◌, ◌≤◌, ℕ, List, IsTrue, IfOk, OnOk};
-ghost use Rattle.tdb_disk.specs.Count.{HasCause};
+ghost use Rattle.std.specs.Prelude.{◌≡◌, ◌+◌, ◌-◌, ◌^◌, ◌<◌, ◌≤◌, ℕ, List, false, IsTrue, IfOk, OnOk};
+ghost use Rattle.tdb_disk.specs.Count.{HasCause, RoseUpTo};
 ghost use Rattle.tdb_disk.specs.History.{seen};
 ghost use Rattle.tdb_words.specs.Word.{word};
 ghost use Rattle.tdb_space.specs.Exchange.{Agree};
-ghost use Rattle.tdb_undo.specs.Window.{Holds};
+ghost use Rattle.tdb_undo.specs.Window.{Holds, MovedOn};
 
 use crate::pieces::BLOCK;
 use tdb_disk::Disk;
@@ -31,6 +31,7 @@ pub(crate) struct Window {
 impl Window {
     /// A window that holds no byte.
     pub(crate) fn new() -> Self
+        ensures empty { (result.from ≡ 0) × (result.len ≡ 0) }
         ensures short { result.len ≤ 4096 }
         ensures holds { (img : List ℕ) → Holds result img }
     {
@@ -53,6 +54,8 @@ impl Window {
         ensures size { D.size d.new ≡ D.size d.old }
         ensures cause { HasCause (D.faults d.old) (D.faults d.new) result }
         ensures syncs { D.syncs d.new ≡ D.syncs d.old }
+        ensures reads { OnOk result ((self.new.from + self.new.len ≤ end) × RoseUpTo self.new.len (D.bytes_read d.old) (D.bytes_read d.new)) }
+        ensures bytes_read { RoseUpTo (end - at) (D.bytes_read d.old) (D.bytes_read d.new) }
     {
         let len = (end - at).min(BLOCK as u64) as usize;
         d.read(at, &mut self.bytes[..len])?;
@@ -65,6 +68,7 @@ impl Window {
     fn has(&self, at: u64) -> bool
         requires short { self.now.len ≤ 4096 }
         ensures has { IsTrue result → (self.now.from ≤ at) × (at + 8 ≤ self.now.from + self.now.len) }
+        ensures has_not { result ≡ false → self.now.from ≤ at → self.now.from + self.now.len < at + 8 }
     {
         self.from <= at
             && at - self.from <= BLOCK as u64
@@ -82,6 +86,7 @@ impl Window {
         requires within { at + 8 ≤ end }
         requires end { end ≤ D.size d.old }
         requires short { self.old.len ≤ 4096 }
+        ensures reached { OnOk result (self.new.from ≤ at) }
         ensures words { IfOk result (λ w. IsTrue D.tells → (img : List ℕ) → Agree img (seen (D.history d.old)) at end → Holds self.old img
             → (w.0 ≡ word order img at) × (w.1 ≡ word order img (at + 4))) }
         ensures holds { OnOk result (IsTrue D.tells → (img : List ℕ) → Agree img (seen (D.history d.old)) at end → Holds self.old img → Holds self.new img) }
@@ -90,6 +95,8 @@ impl Window {
         ensures size { D.size d.new ≡ D.size d.old }
         ensures cause { HasCause (D.faults d.old) (D.faults d.new) result }
         ensures syncs { D.syncs d.new ≡ D.syncs d.old }
+        ensures reads { OnOk result (self.old.from ≤ at → self.old.from + self.old.len ≤ end → MovedOn self.old self.new at end (D.bytes_read d.old) (D.bytes_read d.new)) }
+        ensures bytes_read { RoseUpTo (end - at) (D.bytes_read d.old) (D.bytes_read d.new) }
     {
         self.reach(d, at, end)?;
         let i = (at - self.from) as usize;
@@ -111,6 +118,8 @@ impl Window {
         ensures size { D.size d.new ≡ D.size d.old }
         ensures cause { HasCause (D.faults d.old) (D.faults d.new) result }
         ensures syncs { D.syncs d.new ≡ D.syncs d.old }
+        ensures reads { OnOk result (self.old.from ≤ at → self.old.from + self.old.len ≤ end → MovedOn self.old self.new at end (D.bytes_read d.old) (D.bytes_read d.new)) }
+        ensures bytes_read { RoseUpTo (end - at) (D.bytes_read d.old) (D.bytes_read d.new) }
     {
         if self.has(at) {
             return Ok(());

@@ -1,13 +1,14 @@
 // What the undo area keeps is written back, but for the first bytes of the file.
 
 ghost use Rattle.std.specs.Prelude.{◌≡◌, ◌+◌, ◌-◌, ◌^◌, ◌<◌, ◌≤◌, ◌⊎◌, ℕ, IsTrue, IfErr, OnOk, None, slice_index};
-ghost use Rattle.tdb_disk.specs.Count.{HasCause, HasCauseOf};
+ghost use Rattle.tdb_disk.specs.Count.{HasCause, HasCauseOf, RoseUpTo};
 ghost use Rattle.tdb_disk.specs.History.{seen};
 ghost use Rattle.tdb_disk.specs.Stop.{LeavesOnly};
 ghost use Rattle.tdb_space.specs.Opening.{entry_fault, lies_in};
 ghost use Rattle.tdb_undo.specs.Refusal.{IsIo};
 ghost use Rattle.tdb_undo.specs.Torn.{TornIn, Put};
 ghost use Rattle.tdb_undo.specs.Entries.{entries_in, entries_stop, is_given, is_written, Given};
+ghost use Rattle.tdb_undo.specs.Reads.{entries_reads};
 
 use crate::area::{Area, HEADER_LEN};
 use crate::pieces::{BLOCK, copy_bytes};
@@ -38,6 +39,7 @@ fn give_piece<D: Disk>(
     ensures size { D.size d.new ≡ D.size d.old }
     ensures cause { HasCause (D.faults d.old) (D.faults d.new) result }
     ensures syncs { D.syncs d.new ≡ D.syncs d.old }
+    ensures bytes_read { RoseUpTo (to - from) (D.bytes_read d.old) (D.bytes_read d.new) }
 {
     if to <= from {
         return Ok(());
@@ -65,6 +67,7 @@ fn give_entry<D: Disk>(
     ensures size { D.size d.new ≡ D.size d.old }
     ensures cause { HasCause (D.faults d.old) (D.faults d.new) result }
     ensures syncs { D.syncs d.new ≡ D.syncs d.old }
+    ensures bytes_read { RoseUpTo len (D.bytes_read d.old) (D.bytes_read d.new) }
 {
     let off = off as u64;
     let to = off + len as u64;
@@ -95,6 +98,7 @@ pub(crate) fn write_entries<D: Disk>(
     ensures size { D.size d.new ≡ D.size d.old }
     ensures cause { HasCauseOf UndoRefusal.Io (D.faults d.old) (D.faults d.new) result }
     ensures syncs { D.syncs d.new ≡ D.syncs d.old }
+    ensures bytes_read { RoseUpTo (entries_reads area.now.header.data_len) (D.bytes_read d.old) (D.bytes_read d.new) }
 {
     let mut place = area.at as u64 + HEADER_LEN;
     let end = place + area.header.data_len as u64;

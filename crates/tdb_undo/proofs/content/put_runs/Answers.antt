@@ -1,9 +1,11 @@
 -- No room, one more entry, and the end.
-use Rattle.std.proofs.Common.{◌+◌, drop, sym, subst, ◌∙◌, arith, rules}
+use Rattle.std.proofs.Common.{◌≡◌, ◌+◌, ap, drop, sym, subst, ◌∙◌, arith, rules}
 use Rattle.std.proofs.lemmas.Bool.{MatchBool-at_true, MatchBool-at_false}
+use Rattle.std.proofs.lemmas.List.Sums.{sum_by-cons}
 use Rattle.tdb_disk.specs.History.{seen}
 use Rattle.tdb_space.specs.Opening.{lies_in}
 use Rattle.tdb_undo.specs.Content.{RunsFit, HasRoom}
+use Rattle.tdb_undo.specs.Reads.{run_bytes}
 use Rattle.tdb_undo.proofs.Blocks.{start_torn}
 use Rattle.tdb_undo.proofs.Puts.{Putting, content_least, putting_none, putting_room, putting_more, putting_all, entry_torn, drop_next, drop_end}
 use Rattle.tdb_undo.proofs.content.put_runs.Goals as goal
@@ -26,6 +28,8 @@ loop-i-init g c =
       size = search rules;
       faults = search rules;
       syncs = search rules;
+      rises = omega arith;
+      reads = omega arith;
     }
 
 pub returns-then-not-has_room-clause-filled : goal.returns-then-not-has_room-clause-filled
@@ -54,6 +58,10 @@ loop-i-preserved g c =
       size = search rules;
       faults = search rules;
       syncs = search rules;
+      rises = omega (arith, c.loop-i.invariant.rises, c.put_entry.ensures.bytes_read.never_falls);
+      reads = (let next = drop_next c.args.runs.now c.loop-i.i c.in-Some.run' c.in-Some.ensures.0 c.in-Some.ensures.1 in
+          let now : run_bytes (drop c.loop-i.i c.args.runs.now) ≡ c.in-Some.run'.1 + run_bytes (drop (c.loop-i.i + 1) c.args.runs.now) = ap run_bytes next ∙ sum_by-cons (λ e. e.1) c.in-Some.run' (drop (c.loop-i.i + 1) c.args.runs.now) in
+          omega (arith, c.loop-i.invariant.reads, c.put_entry.ensures.bytes_read.no_more, now));
     }
 
 pub returns-clause-filled : goal.returns-clause-filled

@@ -5,6 +5,7 @@ use Rattle.tdb_disk.specs.Stop.{LeavesOnly}
 use Rattle.tdb_space.specs.Opening.{lies_in}
 use Rattle.tdb_undo.specs.Torn.{TornIn}
 use Rattle.tdb_undo.specs.Content.{RunsFit}
+use Rattle.tdb_undo.specs.Reads.{run_bytes}
 use Rattle.tdb_undo.proofs.Puts.{Putting}
 use Rattle.tdb_undo.proofs.content.put_runs.Given as goal
 
@@ -17,4 +18,6 @@ invariant-loop-i g l = record {
   size : g.D.Disk.size l.d ≡ g.D.Disk.size l.fn.d;
   faults : g.D.Disk.faults l.d ≡ g.D.Disk.faults l.fn.d;
   syncs : g.D.Disk.syncs l.d ≡ g.D.Disk.syncs l.fn.d;
+  rises : g.D.Disk.bytes_read l.fn.d ≤ g.D.Disk.bytes_read l.d;
+  reads : g.D.Disk.bytes_read l.d + run_bytes (drop l.i l.runs) ≤ g.D.Disk.bytes_read l.fn.d + run_bytes l.runs;
 }

@@ -15,6 +15,7 @@ loop-k-init g c = record {
   size = search rules;
   faults = search rules;
   syncs = search rules;
+  bytes_read = search rules;
 }
 
 pub returns-in_err-write_word-clause-stops : goal.returns-in_err-write_word-clause-stops
@@ -33,6 +34,7 @@ loop-k-preserved g c = record {
   size = search rules;
   faults = search rules;
   syncs = search rules;
+  bytes_read = search rules;
 }
 
 pub returns-in_err-sync-clause-stops : goal.returns-in_err-sync-clause-stops

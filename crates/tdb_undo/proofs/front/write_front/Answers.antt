@@ -18,6 +18,7 @@ loop-i-init g c = record {
   size = search rules;
   faults = search rules;
   syncs = search rules;
+  bytes_read = search rules;
 }
 
 pub returns-in_err-write-clause-stops : goal.returns-in_err-write-clause-stops
@@ -65,6 +66,7 @@ loop-i-preserved g c =
       size = search rules;
       faults = search rules;
       syncs = search rules;
+      bytes_read = search rules;
     }
 
 pub returns-clause-put : goal.returns-clause-put

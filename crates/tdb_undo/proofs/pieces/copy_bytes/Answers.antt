@@ -18,6 +18,7 @@ loop-done-init g c = record {
   size = search rules;
   faults = search rules;
   syncs = search rules;
+  bytes_read = record { no_more = omega arith; never_falls = omega arith };
 }
 
 pub returns-in_err-write-clause-stops : goal.returns-in_err-write-clause-stops
@@ -52,4 +53,5 @@ loop-done-preserved g c =
       size = search rules;
       faults = search rules;
       syncs = search rules;
+      bytes_read = record { no_more = omega (arith, v.bytes_read.no_more, c.read.ensures.bytes_read.no_more, c.write.ensures.bytes_read, sized); never_falls = omega (arith, v.bytes_read.never_falls, c.read.ensures.bytes_read.never_falls, c.write.ensures.bytes_read) };
     }

@@ -1,6 +1,7 @@
 -- So many bytes were copied, and a stop leaves the target torn at most.
 use Rattle.std.proofs.Common.{◌≡◌, ◌+◌, ◌-◌, ◌≤◌, IsTrue}
 use Rattle.std.specs.Prelude.{slice_index}
+use Rattle.tdb_disk.specs.Count.{RoseUpTo}
 use Rattle.tdb_disk.specs.History.{seen}
 use Rattle.tdb_disk.specs.Stop.{LeavesOnly}
 use Rattle.tdb_space.specs.Opening.{lies_in}
@@ -15,6 +16,7 @@ invariant-loop-done g l = record {
   size : g.D.Disk.size l.d ≡ g.D.Disk.size l.fn.d;
   faults : g.D.Disk.faults l.d ≡ g.D.Disk.faults l.fn.d;
   syncs : g.D.Disk.syncs l.d ≡ g.D.Disk.syncs l.fn.d;
+  bytes_read : RoseUpTo l.done (g.D.Disk.bytes_read l.fn.d) (g.D.Disk.bytes_read l.d);
 }
 
 abbrev pub decreases-loop-done : goal.decreases-loop-done

@@ -18,6 +18,7 @@ loop-done-init g c = record {
   size = search rules;
   faults = search rules;
   syncs = search rules;
+  bytes_read = search rules;
 }
 
 pub returns-in_err-write-clause-stops : goal.returns-in_err-write-clause-stops
@@ -53,6 +54,7 @@ loop-done-preserved g c =
       size = search rules;
       faults = search rules;
       syncs = search rules;
+      bytes_read = search rules;
     }
   where
     zero_there : (k : ℕ) → slice_index (replicate 4096 0) k ≡ 0

@@ -14,6 +14,7 @@ invariant-loop-done g l = record {
   size : g.D.Disk.size l.d ≡ g.D.Disk.size l.fn.d;
   faults : g.D.Disk.faults l.d ≡ g.D.Disk.faults l.fn.d;
   syncs : g.D.Disk.syncs l.d ≡ g.D.Disk.syncs l.fn.d;
+  bytes_read : g.D.Disk.bytes_read l.d ≡ g.D.Disk.bytes_read l.fn.d;
 }
 
 abbrev pub decreases-loop-done : goal.decreases-loop-done

@@ -16,7 +16,7 @@ use Rattle.tdb_undo.specs.Entries.{lengths}
 use Rattle.tdb_undo.specs.Recovery.{Undoing, recovery_syncs}
 use Rattle.tdb_undo.specs.Refusal.{Names}
 use Rattle.tdb_undo.proofs.Whole.{same_header}
-use Rattle.tdb_undo.proofs.Found.{names_then, still_reopens, undoing_reopens, mild_where_open, none_closed, none_sound, shut_closed, shut_sound, open_is, open_fault, place_first, closed_same, closed_sum, closed_syncs, open_sum, open_syncs, old_words}
+use Rattle.tdb_undo.proofs.Found.{names_then, still_reopens, undoing_reopens, mild_where_open, none_closed, none_sound, shut_closed, shut_sound, open_is, open_fault, place_first, closed_same, closed_sum, closed_syncs, open_sum, open_syncs, open_reads, old_words}
 use Rattle.tdb_undo.proofs.recovering.recover.Goals as goal
 
 pub returns-in_err-area-clause-stops : goal.returns-in_err-area-clause-stops
@@ -168,6 +168,17 @@ pub returns-in_err-area-clause-bad : goal.returns-in_err-area-clause-bad
 returns-in_err-area-clause-bad g c =
     let p = err_from_is_err_and c.from_residual.result c.from_residual.ensures.1 in
     rw (p.1, p.2) (λ told. names_then c.in_err-area.field-0.0 _ _ (λ fault bad. (place_first (form_in c.args.h.now) (seen (g.D.Disk.history c.args.d.now)) fault bad, c.read_area.ensures.still)) (c.in_err-area.ensures.bad told))
+
+-- what was read where there is something to undo
+pub returns-clause-reads : goal.returns-clause-reads
+returns-clause-reads g c told =
+    let f = form_in c.args.h.now in
+    let a = seen (g.D.Disk.history c.args.d.now) in
+    let seen_area = (subst (AreaSeen c.args.h.now.order a) c.in-Some.is (c.in_ok-area.ensures.found told).1) in
+    let stands = (subst (λ o. IfSome o (Stands f (g.D.Disk.size c.args.d.now))) c.in-Some.is c.in_ok-area.ensures.stands) in
+    let some : area_at f a ≢ 0 = λ e. omega (arith, stands.above, seen_area.there, e) in
+    let gate : magic_of f.order a (area_at f a) ≡ GATE_OPEN = ap (λ r. r.magic) (sym (same_header f a c.in-Some.area seen_area)) ∙ c.if-area.false in
+    open_reads f a c.in-Some.area seen_area (open_is f a (c.in_ok-area.ensures.found told).0 some gate) (g.D.Disk.bytes_read c.args.d.now) (g.D.Disk.bytes_read c.read_area.new.d) (g.D.Disk.bytes_read c.undo.new.d) c.read_area.ensures.bytes_read c.undo.ensures.bytes_read
 
 -- bytes are told only where an undo was made
 pub returns-clause-made : goal.returns-clause-made

@@ -1,5 +1,6 @@
 -- The entries before a place have no fault.
 use Rattle.std.proofs.Common.{◌≡◌, ◌+◌, ◌-◌, ◌≤◌, IsTrue}
+use Rattle.tdb_disk.specs.Count.{RoseUpTo}
 use Rattle.tdb_disk.specs.History.{seen}
 use Rattle.tdb_undo.specs.Window.{Holds}
 use Rattle.tdb_undo.proofs.Rest.{Tested}
@@ -17,6 +18,9 @@ invariant-loop-place g l = record {
   size : g.D.Disk.size l.d ≡ g.D.Disk.size l.fn.d;
   faults : g.D.Disk.faults l.d ≡ g.D.Disk.faults l.fn.d;
   syncs : g.D.Disk.syncs l.d ≡ g.D.Disk.syncs l.fn.d;
+  from : l.window.from ≤ l.place;
+  ends : l.window.from + l.window.len ≤ l.end;
+  reads : RoseUpTo (l.window.from + l.window.len - l.start + (l.place - l.start)) (g.D.Disk.bytes_read l.fn.d) (g.D.Disk.bytes_read l.d);
 }
 
 abbrev pub decreases-loop-place : goal.decreases-loop-place

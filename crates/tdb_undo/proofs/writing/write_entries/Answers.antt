@@ -25,6 +25,9 @@ loop-place-init g c = record {
   size = search rules;
   faults = search rules;
   syncs = search rules;
+  from = omega (arith, c.new-window.ensures.empty.0);
+  ends = omega (arith, c.new-window.ensures.empty.0, c.new-window.ensures.empty.1);
+  reads = record { no_more = omega arith; never_falls = omega arith };
 }
 
 pub returns-then-is_bad_entry-clause-refusal : goal.returns-then-is_bad_entry-clause-refusal
@@ -75,6 +78,12 @@ loop-place-preserved g c =
       size = search rules;
       faults = search rules;
       syncs = search rules;
+      from = omega (arith, c.in_ok-off.ensures.reached);
+      ends = (c.in_ok-off.ensures.reads v.from v.ends).within;
+      reads = (let moved = c.in_ok-off.ensures.reads v.from v.ends in record {
+        no_more = omega (arith, v.above, v.reads.no_more, moved.read.no_more, moved.no_less, moved.has, c.give_entry.ensures.bytes_read.no_more);
+        never_falls = omega (arith, v.reads.never_falls, moved.read.never_falls, c.give_entry.ensures.bytes_read.never_falls);
+      });
     }
 
 pub returns-clause-given : goal.returns-clause-given
