@@ -100,11 +100,11 @@ none_fits pairs rec_len e = none (first_fit pairs rec_len) e
     none None e = refl
     none (Some p) e = grind (arith, e)
 
-next_longer : (h : HandPair) (found : Option HandPair) → h.1 ≤ (with_next h found).1
+pub next_longer : (h : HandPair) (found : Option HandPair) → h.1 ≤ (with_next h found).1
 next_longer h None = omega arith
 next_longer h (Some p) = omega arith
 
-previous_longer : (h : HandPair) (found : Option HandPair) → h.1 ≤ (with_previous h found).1
+pub previous_longer : (h : HandPair) (found : Option HandPair) → h.1 ≤ (with_previous h found).1
 previous_longer h None = omega arith
 previous_longer h (Some p) = omega arith
 

@@ -18,6 +18,7 @@ pub mod PutFirst
 pub mod Removed
 pub mod OnceLeft
 pub mod Growth
+pub mod Costs
 pub mod Traded
 pub mod OnlyList
 pub mod ChangesList

@@ -7,5 +7,6 @@ pub mod Look
 pub mod Walk
 pub mod Stretch
 pub mod Growth
+pub mod Reads
 pub mod OnlyList
 pub mod GiveStopped

@@ -1,9 +1,11 @@
 // Giving a hand to the free list.
 
 ghost use Rattle.std.specs.Prelude.{◌≡◌, ◌⊎◌, ◌∷◌, ◌+◌, ◌^◌, ◌<◌, ◌≤◌, IsTrue, IfErr, OnOk, OnErr, List, [], ℕ, false};
-ghost use Rattle.tdb_disk.specs.Count.{HasCause};
+ghost use Rattle.tdb_disk.specs.Count.{HasCause, RoseUpTo};
+ghost use Rattle.tdb_words.specs.Word.{word};
 ghost use Rattle.tdb_space.specs.Frame.{Wrote};
-ghost use Rattle.tdb_space.specs.Form.{data_start};
+ghost use Rattle.tdb_space.specs.Form.{data_start, free_head};
+ghost use Rattle.tdb_space.specs.Chain.{Free};
 ghost use Rattle.tdb_space.specs.Spare.{RoomForAll};
 ghost use Rattle.tdb_space.specs.Extents.{HandPair, HandOk};
 ghost use Rattle.tdb_space.specs.Accepted.{AcceptWith};
@@ -13,6 +15,8 @@ ghost use Rattle.tdb_free.specs.FreeList.{CanBeGiven, Given, GivenBack, MadeFirs
 ghost use Rattle.tdb_free.specs.GiveStopped.{GiveStopped, StillAccepted};
 ghost use Rattle.tdb_free.specs.OnlyList.{OnlyListChanges};
 ghost use Rattle.tdb_free.specs.Stretch.{pair};
+ghost use Rattle.tdb_free.specs.Walk.{FreeBesideUpTo};
+ghost use Rattle.tdb_free.specs.Reads.{give_reads, write_reads};
 ghost use Rattle.tdb_free.specs.declared.refusal.FreeRefusal.{FreeRefusal};
 ghost use Rattle.tdb_free.specs.declared.refusal.FreeRefusal.TheVariants.{Io};
 
@@ -39,7 +43,7 @@ fn put_first<S: Space>(s: &mut S, free: &Stretch) -> Result<(), SpaceIo>
     ensures size { S.size s.new ≡ S.size s.old }
     ensures wrote { Wrote S.Space s.old s.new }
     ensures cause { HasCause (S.faults s.old) (S.faults s.new) result }
-    ensures bytes_read { S.bytes_read s.old ≤ S.bytes_read s.new }
+    ensures bytes_read { RoseUpTo (4 + write_reads 3 32) (S.bytes_read s.old) (S.bytes_read s.new) }
     ensures spare { LeavesRoom 3 32 (S.spare s.old) (S.spare s.new) }
 {
     let order = s.order();
@@ -74,6 +78,9 @@ fn give_stretch<S: Space>(s: &mut S, len: u64, free: Stretch) -> Result<(), Spac
     ensures wrote { Wrote S.Space s.old s.new }
     ensures cause { HasCause (S.faults s.old) (S.faults s.new) result }
     ensures bytes_read { S.bytes_read s.old ≤ S.bytes_read s.new }
+    ensures walked { IsTrue S.tells → (offs : List ℕ)
+        → Free (S.form s.old) (S.image s.old) (word (S.form s.old).order (S.image s.old) free_head) offs
+        → (most : ℕ) → FreeBesideUpTo (S.form s.old) (S.image s.old) offs (pair free) most → RoseUpTo (give_reads most) (S.bytes_read s.old) (S.bytes_read s.new) }
     ensures spare { LeavesRoom 5 40 (S.spare s.old) (S.spare s.new) }
 {
     let beside = find_neighbours(s, len, &free)?;
@@ -110,6 +117,9 @@ pub fn give<S: Space>(s: &mut S, h: Hand) -> Result<(), FreeRefusal>
     ensures wrote { Wrote S.Space s.old s.new }
     ensures cause { HasCause (S.faults s.old) (S.faults s.new) result }
     ensures bytes_read { S.bytes_read s.old ≤ S.bytes_read s.new }
+    ensures walked { IsTrue S.tells → (offs : List ℕ)
+        → Free (S.form s.old) (S.image s.old) (word (S.form s.old).order (S.image s.old) free_head) offs
+        → (most : ℕ) → FreeBesideUpTo (S.form s.old) (S.image s.old) offs h most → RoseUpTo (give_reads most) (S.bytes_read s.old) (S.bytes_read s.new) }
     ensures spare { LeavesRoom 5 40 (S.spare s.old) (S.spare s.new) }
 {
     let free = Stretch {

@@ -1,7 +1,7 @@
 // Taking a record from the free list, or from what the file grows by.
 
-ghost use Rattle.std.specs.Prelude.{◌≡◌, ◌⊎◌, ◌+◌, ◌-◌, ◌*◌, ◌/◌, ◌%◌, ◌^◌, ◌<◌, ◌≤◌, IsTrue, IfOk, IfErr, IfSome, OnOk, List, [], ◌∷◌, ℕ, Some, false};
-ghost use Rattle.tdb_disk.specs.Count.{HasCause, HasCauseOf};
+ghost use Rattle.std.specs.Prelude.{◌≡◌, ◌⊎◌, ◌+◌, ◌-◌, ◌*◌, ◌/◌, ◌%◌, ◌^◌, ◌<◌, ◌≤◌, IsTrue, IfOk, IfErr, IfSome, OnOk, List, [], ◌∷◌, ℕ, Some, false, length};
+ghost use Rattle.tdb_disk.specs.Count.{HasCause, HasCauseOf, RoseUpTo};
 ghost use Rattle.tdb_disk.specs.Image.{padded};
 ghost use Rattle.tdb_space.specs.Frame.{Wrote};
 ghost use Rattle.tdb_space.specs.Extents.{HandPair};
@@ -9,10 +9,11 @@ ghost use Rattle.tdb_space.specs.Accepted.{AcceptWith};
 ghost use Rattle.tdb_space.specs.Stays.{ChainsStay};
 ghost use Rattle.tdb_space.specs.Spare.{RoomForAll, RoomUpTo};
 ghost use Rattle.tdb_space.specs.SpareLeft.{LeavesRoom};
-ghost use Rattle.tdb_free.specs.FreeList.{Given};
+ghost use Rattle.tdb_free.specs.FreeList.{Given, free_pairs};
 ghost use Rattle.tdb_space.specs.Standing.{Stands};
 ghost use Rattle.tdb_free.specs.OnlyList.{OnlyListChanges};
 ghost use Rattle.tdb_free.specs.Growth.{grown_length, grown_hand, CanBeTaken, TakenBy, RefusedRightly, SaysLengths};
+ghost use Rattle.tdb_free.specs.Reads.{give_reads, take_reads};
 ghost use Rattle.tdb_free.specs.declared.refusal.FreeRefusal.{FreeRefusal};
 ghost use Rattle.tdb_free.specs.declared.refusal.FreeRefusal.TheVariants.{Io};
 
@@ -63,6 +64,7 @@ fn grow_by<S: Space>(s: &mut S, len: u64, to: u64) -> Result<(), FreeRefusal>
     ensures wrote { Wrote S.Space s.old s.new }
     ensures cause { HasCause (S.faults s.old) (S.faults s.new) result }
     ensures bytes_read { S.bytes_read s.old ≤ S.bytes_read s.new }
+    ensures reads { IsTrue S.tells → (offs : List ℕ) → CanBeTaken (S.form s.old) (S.image s.old) offs → RoseUpTo (give_reads (length offs)) (S.bytes_read s.old) (S.bytes_read s.new) }
     ensures spare { LeavesRoom 5 40 (S.spare s.old) (S.spare s.new) }
 {
     s.grow(to)?;
@@ -99,6 +101,7 @@ pub fn take<S: Space>(s: &mut S, rec_len: u64, limit: u64) -> Result<Hand, FreeR
     ensures wrote { Wrote S.Space s.old s.new }
     ensures cause { HasCauseOf Io (S.faults s.old) (S.faults s.new) result }
     ensures bytes_read { S.bytes_read s.old ≤ S.bytes_read s.new }
+    ensures reads { IsTrue S.tells → (offs : List ℕ) → CanBeTaken (S.form s.old) (S.image s.old) offs → RoseUpTo (take_reads rec_len (free_pairs (S.form s.old) (S.image s.old) offs)) (S.bytes_read s.old) (S.bytes_read s.new) }
     ensures spare { LeavesRoom 9 88 (S.spare s.old) (S.spare s.new) }
 {
     if let Some(hand) = take_fit(s, rec_len)? {

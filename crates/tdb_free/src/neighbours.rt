@@ -67,10 +67,10 @@ pub(crate) fn find_neighbours<S: Space>(
     ensures looked { Looked S.Space s.old s.new }
     ensures cause { HasCause (S.faults s.old) (S.faults s.new) result }
     ensures bytes_read { S.bytes_read s.old ≤ S.bytes_read s.new }
-    ensures walked { OnOk result (IsTrue S.tells → (offs : List ℕ)
+    ensures walked { IsTrue S.tells → (offs : List ℕ)
         → Free (S.form s.old) (S.image s.old) (word (S.form s.old).order (S.image s.old) free_head) offs
         → (most : ℕ) → FreeBesideUpTo (S.form s.old) (S.image s.old) offs (pair free.now) most
-        → RoseUpTo (64 + 4 * most) (S.bytes_read s.old) (S.bytes_read s.new)) }
+        → RoseUpTo (64 + 4 * most) (S.bytes_read s.old) (S.bytes_read s.new) }
     ensures unwalked { OnOk result (IsTrue S.tells → (FreeBeside (S.form s.old).order (S.image s.old) (pair free.now) → ⊥)
         → RoseUpTo 12 (S.bytes_read s.old) (S.bytes_read s.new)) }
 {

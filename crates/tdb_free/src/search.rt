@@ -1,13 +1,14 @@
 // The search of the free list for a record that is long enough.
 
 ghost use Rattle.std.specs.Prelude.{◌≡◌, ◌+◌, ◌*◌, ◌≤◌, IsTrue, IfOk, IfSome, List, ℕ};
-ghost use Rattle.tdb_disk.specs.Count.{HasCause};
+ghost use Rattle.tdb_disk.specs.Count.{HasCause, RoseUpTo};
 ghost use Rattle.tdb_words.specs.Word.{word};
 ghost use Rattle.tdb_space.specs.Frame.{Looked};
 ghost use Rattle.tdb_space.specs.Form.{free_head};
 ghost use Rattle.tdb_space.specs.Chain.{Free};
-ghost use Rattle.tdb_free.specs.FreeList.{is_long_enough, end_of};
+ghost use Rattle.tdb_free.specs.FreeList.{is_long_enough, end_of, free_pairs};
 ghost use Rattle.tdb_free.specs.Search.{IsSpot, SpotWithin, once_left, spot_pair};
+ghost use Rattle.tdb_free.specs.Reads.{search_reads};
 
 use crate::record::first_free;
 use tdb_space::{FREE_HEAD, Io, Space, read_listed};
@@ -73,6 +74,9 @@ pub(crate) fn find_fit<S: Space>(s: &mut S, len: u64, rec_len: u64) -> Result<Op
     ensures looked { Looked S.Space s.old s.new }
     ensures cause { HasCause (S.faults s.old) (S.faults s.new) result }
     ensures bytes_read { S.bytes_read s.old ≤ S.bytes_read s.new }
+    ensures reads { IsTrue S.tells → (offs : List ℕ)
+        → Free (S.form s.old) (S.image s.old) (word (S.form s.old).order (S.image s.old) free_head) offs
+        → RoseUpTo (search_reads rec_len (free_pairs (S.form s.old) (S.image s.old) offs)) (S.bytes_read s.old) (S.bytes_read s.new) }
 {
     let mut before = FREE_HEAD;
     let mut at = first_free(s, len)?;

@@ -1,20 +1,24 @@
 // Taking a record from the free list.
 
 ghost use Rattle.std.specs.Prelude.{◌≡◌, ◌⊎◌, ◌+◌, ◌-◌, ◌%◌, ◌^◌, ◌<◌, ◌≤◌, IsTrue, List, [], ◌∷◌, ℕ, length, Some, IfOk, OnOk, OnErr, IfSome, false};
-ghost use Rattle.tdb_disk.specs.Count.{HasCause};
+ghost use Rattle.tdb_disk.specs.Count.{HasCause, RoseUpTo};
+ghost use Rattle.tdb_words.specs.Word.{word};
 ghost use Rattle.tdb_space.specs.Frame.{Wrote};
+ghost use Rattle.tdb_space.specs.Form.{free_head};
+ghost use Rattle.tdb_space.specs.Chain.{Free};
 ghost use Rattle.tdb_space.specs.Extents.{HandPair};
 ghost use Rattle.tdb_space.specs.Accepted.{AcceptWith};
 ghost use Rattle.tdb_space.specs.Stays.{OnlyIn};
 ghost use Rattle.tdb_space.specs.Spare.{RoomForAll};
 ghost use Rattle.tdb_space.specs.SpareLeft.{LeavesRoom};
-ghost use Rattle.tdb_free.specs.FreeList.{ListedOnce, is_long_enough};
+ghost use Rattle.tdb_free.specs.FreeList.{ListedOnce, is_long_enough, free_pairs};
 ghost use Rattle.tdb_space.specs.Standing.{Stands};
 ghost use Rattle.tdb_free.specs.Search.{IsFirst, SpotWithin};
 ghost use Rattle.tdb_free.specs.Removal.{LeftOut};
 ghost use Rattle.tdb_free.specs.OnlyList.{OnlyListChanges};
 ghost use Rattle.tdb_free.specs.TakenFrom.{TakenFrom, TakenKept, IsTaken};
 ghost use Rattle.tdb_free.specs.Shortened.{Shortened};
+ghost use Rattle.tdb_free.specs.Reads.{search_reads, write_reads};
 
 use crate::removal::take_out;
 use crate::search::{Spot, find_fit};
@@ -34,7 +38,7 @@ fn take_whole<S: Space>(s: &mut S, spot: &Spot) -> Result<Hand, Io>
     ensures size { S.size s.new ≡ S.size s.old }
     ensures wrote { Wrote S.Space s.old s.new }
     ensures cause { HasCause (S.faults s.old) (S.faults s.new) result }
-    ensures bytes_read { S.bytes_read s.old ≤ S.bytes_read s.new }
+    ensures bytes_read { RoseUpTo (write_reads 1 4) (S.bytes_read s.old) (S.bytes_read s.new) }
     ensures spare { LeavesRoom 1 4 (S.spare s.old) (S.spare s.new) }
 {
     take_out(s, Some(*spot))?;
@@ -54,7 +58,7 @@ fn shorten<S: Space>(s: &mut S, spot: &Spot, rec_len: u32) -> Result<(), Io>
     ensures size { S.size s.new ≡ S.size s.old }
     ensures wrote { Wrote S.Space s.old s.new }
     ensures cause { HasCause (S.faults s.old) (S.faults s.new) result }
-    ensures bytes_read { S.bytes_read s.old ≤ S.bytes_read s.new }
+    ensures bytes_read { RoseUpTo (write_reads 2 24) (S.bytes_read s.old) (S.bytes_read s.new) }
     ensures spare { LeavesRoom 2 24 (S.spare s.old) (S.spare s.new) }
 {
     let order = s.order();
@@ -88,7 +92,7 @@ fn take_end<S: Space>(s: &mut S, spot: &Spot, rec_len: u32) -> Result<Hand, Io>
     ensures size { S.size s.new ≡ S.size s.old }
     ensures wrote { Wrote S.Space s.old s.new }
     ensures cause { HasCause (S.faults s.old) (S.faults s.new) result }
-    ensures bytes_read { S.bytes_read s.old ≤ S.bytes_read s.new }
+    ensures bytes_read { RoseUpTo (write_reads 2 24) (S.bytes_read s.old) (S.bytes_read s.new) }
     ensures spare { LeavesRoom 2 24 (S.spare s.old) (S.spare s.new) }
 {
     shorten(s, spot, spot.rec_len - (24 + rec_len))?;
@@ -115,7 +119,7 @@ fn take_from<S: Space>(s: &mut S, spot: &Spot, rec_len: u32) -> Result<Hand, Io>
     ensures size { S.size s.new ≡ S.size s.old }
     ensures wrote { Wrote S.Space s.old s.new }
     ensures cause { HasCause (S.faults s.old) (S.faults s.new) result }
-    ensures bytes_read { S.bytes_read s.old ≤ S.bytes_read s.new }
+    ensures bytes_read { RoseUpTo (write_reads 2 24) (S.bytes_read s.old) (S.bytes_read s.new) }
     ensures spare { LeavesRoom 2 24 (S.spare s.old) (S.spare s.new) }
 {
     if spot.rec_len - rec_len < LEAST_LEFT {
@@ -149,6 +153,9 @@ pub fn take_fit<S: Space>(s: &mut S, rec_len: u64) -> Result<Option<Hand>, Io>
     ensures wrote { Wrote S.Space s.old s.new }
     ensures cause { HasCause (S.faults s.old) (S.faults s.new) result }
     ensures bytes_read { S.bytes_read s.old ≤ S.bytes_read s.new }
+    ensures reads { IsTrue S.tells → (offs : List ℕ)
+        → Free (S.form s.old) (S.image s.old) (word (S.form s.old).order (S.image s.old) free_head) offs
+        → RoseUpTo (search_reads rec_len (free_pairs (S.form s.old) (S.image s.old) offs) + write_reads 2 24) (S.bytes_read s.old) (S.bytes_read s.new) }
     ensures spare { LeavesRoom 2 24 (S.spare s.old) (S.spare s.new) }
 {
     let len = s.len()?;

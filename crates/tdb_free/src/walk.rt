@@ -1,6 +1,6 @@
 // The walk along the free list to the records that are sought, each by its offset.
 
-ghost use Rattle.std.specs.Prelude.{◌≡◌, ◌+◌, ◌*◌, ◌≤◌, ◌&&◌, IsTrue, IfOk, IfSome, OnOk, List, Option, Some, ℕ, is_some, is_none};
+ghost use Rattle.std.specs.Prelude.{◌≡◌, ◌+◌, ◌*◌, ◌≤◌, ◌&&◌, IsTrue, IfOk, IfSome, List, Option, Some, ℕ, is_some, is_none};
 ghost use Rattle.tdb_disk.specs.Count.{HasCause, RoseUpTo};
 ghost use Rattle.tdb_words.specs.Word.{word};
 ghost use Rattle.tdb_space.specs.Frame.{Looked};
@@ -68,10 +68,10 @@ pub(crate) fn find_links<S: Space>(
     ensures looked { Looked S.Space s.old s.new }
     ensures cause { HasCause (S.faults s.old) (S.faults s.new) result }
     ensures bytes_read { S.bytes_read s.old ≤ S.bytes_read s.new }
-    ensures walked { OnOk result (IsTrue S.tells → (offs : List ℕ)
+    ensures walked { IsTrue S.tells → (offs : List ℕ)
         → Free (S.form s.old) (S.image s.old) (word (S.form s.old).order (S.image s.old) free_head) offs
         → (most : ℕ) → IsUpTo (S.form s.old) (S.image s.old) offs first most → IsUpTo (S.form s.old) (S.image s.old) offs second most
-        → RoseUpTo (4 + 4 * most) (S.bytes_read s.old) (S.bytes_read s.new)) }
+        → RoseUpTo (4 + 4 * most) (S.bytes_read s.old) (S.bytes_read s.new) }
 {
     let mut to_first = None;
     let mut to_second = None;

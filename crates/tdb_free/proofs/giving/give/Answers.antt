@@ -1,10 +1,14 @@
 -- A hand of an accepted image is one that can be given, and what is given or stops on the way leaves the rest.
 use Rattle.std.proofs.Common.{◌≡◌, ℕ, ◌<◌, ◌^◌, List, [], ◌∷◌, length, subst, arith}
-use Rattle.tdb_space.specs.Form.{Form}
-use Rattle.tdb_space.specs.Chain.{free_of}
+use Rattle.tdb_disk.specs.Count.{RoseUpTo}
+use Rattle.tdb_words.specs.Word.{word}
+use Rattle.tdb_space.specs.Form.{Form, free_head}
+use Rattle.tdb_space.specs.Chain.{free_of, Free}
 use Rattle.tdb_space.specs.Extents.{HandPair}
 use Rattle.tdb_free.specs.FreeList.{CanBeGiven, Given}
 use Rattle.tdb_free.specs.GiveStopped.{GiveStopped}
+use Rattle.tdb_free.specs.Walk.{FreeBesideUpTo}
+use Rattle.tdb_free.specs.Reads.{give_reads}
 use Rattle.tdb_free.proofs.Accepted.{can_be_given, given_back}
 use Rattle.tdb_free.proofs.Results.{on_err}
 use Rattle.tdb_free.proofs.Stopped.{stopped_before, exchanged_only, same_only, still_accepted}
@@ -84,3 +88,24 @@ returns-in_err-give_stretch-clause-only g c told offs C =
     let same : passed ≡ c.args.h = λ j. (c.off.ensures.value j, c.rec_len.ensures.value j) in
     let S = moved (λ x y z. CanBeGiven x y offs z → GiveStopped x y b offs z) f (g.S.Space.form c.len.new.self) a (g.S.Space.image c.len.new.self) c.args.h passed c.len.ensures.form c.len.ensures.image same (c.in_err-give_stretch.ensures.stopped told offs) C in
     exchanged_only f a b offs S.news (c.args.h ∷ []) S.out S.exchanged
+
+-- what was read of the list
+pub returns-in_err-give_stretch-clause-walked : goal.returns-in_err-give_stretch-clause-walked
+returns-in_err-give_stretch-clause-walked g c told offs list most up_to =
+    let f = g.S.Space.form c.args.s.now in
+    let a = g.S.Space.image c.args.s.now in
+    let passed : HandPair = (c.off.result, c.rec_len.result) in
+    let same : passed ≡ c.args.h = λ j. (c.off.ensures.value j, c.rec_len.ensures.value j) in
+    let walked = moved (λ x y z. Free x y (word x.order y free_head) offs → FreeBesideUpTo x y offs z most → RoseUpTo (give_reads most) (g.S.Space.bytes_read c.len.new.self) (g.S.Space.bytes_read c.give_stretch.new.s))
+    f (g.S.Space.form c.len.new.self) a (g.S.Space.image c.len.new.self) c.args.h passed c.len.ensures.form c.len.ensures.image same (λ l up. c.give_stretch.ensures.walked told offs l most up) list up_to in
+    record { no_more = omega (arith, walked.no_more, c.len.ensures.bytes_read); never_falls = omega (arith, walked.never_falls, c.len.ensures.bytes_read) }
+
+pub returns-clause-walked : goal.returns-clause-walked
+returns-clause-walked g c told offs list most up_to =
+    let f = g.S.Space.form c.args.s.now in
+    let a = g.S.Space.image c.args.s.now in
+    let passed : HandPair = (c.off.result, c.rec_len.result) in
+    let same : passed ≡ c.args.h = λ j. (c.off.ensures.value j, c.rec_len.ensures.value j) in
+    let walked = moved (λ x y z. Free x y (word x.order y free_head) offs → FreeBesideUpTo x y offs z most → RoseUpTo (give_reads most) (g.S.Space.bytes_read c.len.new.self) (g.S.Space.bytes_read c.give_stretch.new.s))
+    f (g.S.Space.form c.len.new.self) a (g.S.Space.image c.len.new.self) c.args.h passed c.len.ensures.form c.len.ensures.image same (λ l up. c.give_stretch.ensures.walked told offs l most up) list up_to in
+    record { no_more = omega (arith, walked.no_more, c.len.ensures.bytes_read); never_falls = omega (arith, walked.never_falls, c.len.ensures.bytes_read) }

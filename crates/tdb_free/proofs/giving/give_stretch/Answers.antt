@@ -1,5 +1,5 @@
 -- Both neighbours leave the list, and the hand that they make with the stretch becomes its first record.
-use Rattle.std.proofs.Common.{◌≡◌, ◌⊎◌, ℕ, List, [], ◌∷◌, Option, refl, sym, ◌∙◌, subst, inl, inr}
+use Rattle.std.proofs.Common.{◌≡◌, ◌⊎◌, ℕ, List, [], ◌∷◌, Option, refl, sym, ◌∙◌, subst, inl, inr, arith}
 use Rattle.std.proofs.lemmas.Result.{on_ok_weaker, on_err_weaker}
 use Rattle.tdb_space.specs.Form.{Form}
 use Rattle.tdb_space.specs.Extents.{HandOk}
@@ -106,3 +106,24 @@ returns-clause-stopped g c =
     let ok = (given_last f a offs h beside C B b N cut P).in_place in
     let M = subst (λ q. HandOk q cut (pair c.with_previous.result) → InHands q cut d (pair c.with_previous.result ∷ []) ⊎ MadeFirst q cut d (pair c.with_previous.result)) form_last (stopped told) in
     stopped_last f a offs h beside C B b N cut P d (subst (λ p. HandOk f cut p → InHands f cut d (p ∷ []) ⊎ MadeFirst f cut d p) last M ok))) c.put_first.ensures.stopped
+
+-- what was read up to each end
+pub returns-in_err-beside-clause-walked : goal.returns-in_err-beside-clause-walked
+returns-in_err-beside-clause-walked g c told offs list most up_to =
+    let walked = c.find_neighbours.ensures.walked told offs list most up_to in
+    record { no_more = omega (arith, walked.no_more); never_falls = omega (arith, walked.never_falls) }
+
+pub returns-in_err-take_out-clause-walked : goal.returns-in_err-take_out-clause-walked
+returns-in_err-take_out-clause-walked g c told offs list most up_to =
+    let walked = c.find_neighbours.ensures.walked told offs list most up_to in
+    record { no_more = omega (arith, walked.no_more, c.take_out.ensures.bytes_read.no_more); never_falls = omega (arith, walked.never_falls, c.take_out.ensures.bytes_read.never_falls) }
+
+pub returns-in_err-take_out-2-clause-walked : goal.returns-in_err-take_out-2-clause-walked
+returns-in_err-take_out-2-clause-walked g c told offs list most up_to =
+    let walked = c.find_neighbours.ensures.walked told offs list most up_to in
+    record { no_more = omega (arith, walked.no_more, c.take_out.ensures.bytes_read.no_more, c.take_out-2.ensures.bytes_read.no_more); never_falls = omega (arith, walked.never_falls, c.take_out.ensures.bytes_read.never_falls, c.take_out-2.ensures.bytes_read.never_falls) }
+
+pub returns-clause-walked : goal.returns-clause-walked
+returns-clause-walked g c told offs list most up_to =
+    let walked = c.find_neighbours.ensures.walked told offs list most up_to in
+    record { no_more = omega (arith, walked.no_more, c.take_out.ensures.bytes_read.no_more, c.take_out-2.ensures.bytes_read.no_more, c.put_first.ensures.bytes_read.no_more); never_falls = omega (arith, walked.never_falls, c.take_out.ensures.bytes_read.never_falls, c.take_out-2.ensures.bytes_read.never_falls, c.put_first.ensures.bytes_read.never_falls) }

@@ -102,7 +102,7 @@ returns-clause-walked g c told offs list most up_to =
     let walked : RoseUpTo (4 + 4 * most) (g.S.Space.bytes_read c.free_start_before.new.s) (g.S.Space.bytes_read c.find_links.new.s) =
     moved (λ k i. Free k i (word k.order i free_head) offs → (n : ℕ) → IsUpTo k i offs start n → IsUpTo k i offs start_before n
     → RoseUpTo (4 + 4 * n) (g.S.Space.bytes_read c.free_start_before.new.s) (g.S.Space.bytes_read c.find_links.new.s)) f (g.S.Space.form c.free_start_before.new.s) img
-    (g.S.Space.image c.free_start_before.new.s) form2 image2 (c.in_ok-links.ensures.walked told offs) list most
+    (g.S.Space.image c.free_start_before.new.s) form2 image2 (c.find_links.ensures.walked told offs) list most
     (next_up_to f img offs from list (end_of hand) start behind same most up_to.next) (previous_up_to f img offs from list hand.0 start_before before most up_to.previous) in
     record {
       no_more = omega (
@@ -120,5 +120,117 @@ returns-clause-walked g c told offs list most up_to =
         walked.never_falls,
         c.read_spot.ensures.bytes_read.never_falls,
         c.read_spot-2.ensures.bytes_read.never_falls,
+      );
+    }
+
+-- a record beside the stretch couldn't be read, or a word of the list
+pub returns-in_err-previous-clause-walked : goal.returns-in_err-previous-clause-walked
+returns-in_err-previous-clause-walked g c told offs list most up_to =
+    let f = g.S.Space.form c.args.s.now in
+    let img = g.S.Space.image c.args.s.now in
+    let from = word f.order img free_head in
+    let hand = pair c.args.free.now in
+    let start = c.in_ok-behind.behind in
+    let start_before = c.in_ok-before.before in
+    let form1 = c.free_start.ensures.looked.form in
+    let image1 = c.free_start.ensures.looked.image in
+    let form2 = c.free_start_before.ensures.looked.form ∙ form1 in
+    let image2 = c.free_start_before.ensures.looked.image ∙ image1 in
+    let behind : Behind (end_of hand) start f img = subst (λ e. Behind e start f img) c.end.ensures (c.in_ok-behind.ensures.start told) in
+    let before : Before hand.0 start_before f img = moved (Before hand.0 start_before) f (g.S.Space.form c.free_start.new.s) img (g.S.Space.image c.free_start.new.s) form1 image1 (c.in_ok-before.ensures.start told) in
+    let same : IfSome start (λ x. x ≡ end_of hand) = subst (λ e. IfSome start (λ x. x ≡ e)) c.end.ensures c.in_ok-behind.ensures.same in
+    let walked : RoseUpTo (4 + 4 * most) (g.S.Space.bytes_read c.free_start_before.new.s) (g.S.Space.bytes_read c.find_links.new.s) =
+    moved (λ k i. Free k i (word k.order i free_head) offs → (n : ℕ) → IsUpTo k i offs start n → IsUpTo k i offs start_before n
+    → RoseUpTo (4 + 4 * n) (g.S.Space.bytes_read c.free_start_before.new.s) (g.S.Space.bytes_read c.find_links.new.s)) f (g.S.Space.form c.free_start_before.new.s) img
+    (g.S.Space.image c.free_start_before.new.s) form2 image2 (c.find_links.ensures.walked told offs) list most
+    (next_up_to f img offs from list (end_of hand) start behind same most up_to.next) (previous_up_to f img offs from list hand.0 start_before before most up_to.previous) in
+    record {
+      no_more = omega (
+        arith,
+        c.free_start.ensures.bytes_read.no_more,
+        c.free_start_before.ensures.bytes_read.no_more,
+        walked.no_more,
+        c.read_spot.ensures.bytes_read.no_more,
+        c.read_spot-2.ensures.bytes_read.no_more,
+      );
+      never_falls = omega (
+        arith,
+        c.free_start.ensures.bytes_read.never_falls,
+        c.free_start_before.ensures.bytes_read.never_falls,
+        walked.never_falls,
+        c.read_spot.ensures.bytes_read.never_falls,
+        c.read_spot-2.ensures.bytes_read.never_falls,
+      );
+    }
+
+pub returns-in_err-next-clause-walked : goal.returns-in_err-next-clause-walked
+returns-in_err-next-clause-walked g c told offs list most up_to =
+    let f = g.S.Space.form c.args.s.now in
+    let img = g.S.Space.image c.args.s.now in
+    let from = word f.order img free_head in
+    let hand = pair c.args.free.now in
+    let start = c.in_ok-behind.behind in
+    let start_before = c.in_ok-before.before in
+    let form1 = c.free_start.ensures.looked.form in
+    let image1 = c.free_start.ensures.looked.image in
+    let form2 = c.free_start_before.ensures.looked.form ∙ form1 in
+    let image2 = c.free_start_before.ensures.looked.image ∙ image1 in
+    let behind : Behind (end_of hand) start f img = subst (λ e. Behind e start f img) c.end.ensures (c.in_ok-behind.ensures.start told) in
+    let before : Before hand.0 start_before f img = moved (Before hand.0 start_before) f (g.S.Space.form c.free_start.new.s) img (g.S.Space.image c.free_start.new.s) form1 image1 (c.in_ok-before.ensures.start told) in
+    let same : IfSome start (λ x. x ≡ end_of hand) = subst (λ e. IfSome start (λ x. x ≡ e)) c.end.ensures c.in_ok-behind.ensures.same in
+    let walked : RoseUpTo (4 + 4 * most) (g.S.Space.bytes_read c.free_start_before.new.s) (g.S.Space.bytes_read c.find_links.new.s) =
+    moved (λ k i. Free k i (word k.order i free_head) offs → (n : ℕ) → IsUpTo k i offs start n → IsUpTo k i offs start_before n
+    → RoseUpTo (4 + 4 * n) (g.S.Space.bytes_read c.free_start_before.new.s) (g.S.Space.bytes_read c.find_links.new.s)) f (g.S.Space.form c.free_start_before.new.s) img
+    (g.S.Space.image c.free_start_before.new.s) form2 image2 (c.find_links.ensures.walked told offs) list most
+    (next_up_to f img offs from list (end_of hand) start behind same most up_to.next) (previous_up_to f img offs from list hand.0 start_before before most up_to.previous) in
+    record {
+      no_more = omega (
+        arith,
+        c.free_start.ensures.bytes_read.no_more,
+        c.free_start_before.ensures.bytes_read.no_more,
+        walked.no_more,
+        c.read_spot.ensures.bytes_read.no_more,
+      );
+      never_falls = omega (
+        arith,
+        c.free_start.ensures.bytes_read.never_falls,
+        c.free_start_before.ensures.bytes_read.never_falls,
+        walked.never_falls,
+        c.read_spot.ensures.bytes_read.never_falls,
+      );
+    }
+
+pub returns-in_err-links-clause-walked : goal.returns-in_err-links-clause-walked
+returns-in_err-links-clause-walked g c told offs list most up_to =
+    let f = g.S.Space.form c.args.s.now in
+    let img = g.S.Space.image c.args.s.now in
+    let from = word f.order img free_head in
+    let hand = pair c.args.free.now in
+    let start = c.in_ok-behind.behind in
+    let start_before = c.in_ok-before.before in
+    let form1 = c.free_start.ensures.looked.form in
+    let image1 = c.free_start.ensures.looked.image in
+    let form2 = c.free_start_before.ensures.looked.form ∙ form1 in
+    let image2 = c.free_start_before.ensures.looked.image ∙ image1 in
+    let behind : Behind (end_of hand) start f img = subst (λ e. Behind e start f img) c.end.ensures (c.in_ok-behind.ensures.start told) in
+    let before : Before hand.0 start_before f img = moved (Before hand.0 start_before) f (g.S.Space.form c.free_start.new.s) img (g.S.Space.image c.free_start.new.s) form1 image1 (c.in_ok-before.ensures.start told) in
+    let same : IfSome start (λ x. x ≡ end_of hand) = subst (λ e. IfSome start (λ x. x ≡ e)) c.end.ensures c.in_ok-behind.ensures.same in
+    let walked : RoseUpTo (4 + 4 * most) (g.S.Space.bytes_read c.free_start_before.new.s) (g.S.Space.bytes_read c.find_links.new.s) =
+    moved (λ k i. Free k i (word k.order i free_head) offs → (n : ℕ) → IsUpTo k i offs start n → IsUpTo k i offs start_before n
+    → RoseUpTo (4 + 4 * n) (g.S.Space.bytes_read c.free_start_before.new.s) (g.S.Space.bytes_read c.find_links.new.s)) f (g.S.Space.form c.free_start_before.new.s) img
+    (g.S.Space.image c.free_start_before.new.s) form2 image2 (c.find_links.ensures.walked told offs) list most
+    (next_up_to f img offs from list (end_of hand) start behind same most up_to.next) (previous_up_to f img offs from list hand.0 start_before before most up_to.previous) in
+    record {
+      no_more = omega (
+        arith,
+        c.free_start.ensures.bytes_read.no_more,
+        c.free_start_before.ensures.bytes_read.no_more,
+        walked.no_more,
+      );
+      never_falls = omega (
+        arith,
+        c.free_start.ensures.bytes_read.never_falls,
+        c.free_start_before.ensures.bytes_read.never_falls,
+        walked.never_falls,
       );
     }

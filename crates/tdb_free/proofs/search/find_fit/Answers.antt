@@ -17,6 +17,7 @@ loop-turn-init g c = record {
   looked = search rules;
   faults = search rules;
   bytes_read = search rules;
+  most = omega (arith, c.first_free.ensures.bytes_read.no_more);
 }
 
 -- no record can stand there
@@ -66,6 +67,7 @@ loop-turn-preserved g c =
       looked = search rules;
       faults = search rules;
       bytes_read = search rules;
+      most = omega (arith, v.most, c.read_listed.ensures.bytes_read.no_more);
     }
 
 -- as many records were passed as the image has words
@@ -76,3 +78,33 @@ returns-clause-found g c told offs list =
     let v = c.loop-turn.invariant in
     passed_all f img offs (is_long_enough c.args.rec_len) c.loop-turn._turn c.loop-turn.before c.loop-turn.at (v.passed told offs list)
     (omega (arith, g.met.S.Space.told_size c.args.s.now told, c.requires.length, c.loop-turn-test.false))
+
+-- what was read where the search ends
+pub returns-in_err-rec-clause-reads : goal.returns-in_err-rec-clause-reads
+returns-in_err-rec-clause-reads g c told offs list =
+    let v = c.loop-turn.invariant in
+    record {
+      no_more = omega (arith, v.most, (v.passed told offs list).count, c.read_listed.ensures.bytes_read.no_more);
+      never_falls = omega (arith, v.bytes_read, c.read_listed.ensures.bytes_read.never_falls);
+    }
+
+pub returns-in_default-clause-reads : goal.returns-in_default-clause-reads
+returns-in_default-clause-reads g c told offs list =
+    let v = c.loop-turn.invariant in
+    record {
+      no_more = omega (arith, v.most, (v.passed told offs list).count, c.read_listed.ensures.bytes_read.no_more);
+      never_falls = omega (arith, v.bytes_read, c.read_listed.ensures.bytes_read.never_falls);
+    }
+
+pub returns-then-rec_len-rec-clause-reads : goal.returns-then-rec_len-rec-clause-reads
+returns-then-rec_len-rec-clause-reads g c told offs list =
+    let v = c.loop-turn.invariant in
+    record {
+      no_more = omega (arith, v.most, (v.passed told offs list).count, c.read_listed.ensures.bytes_read.no_more);
+      never_falls = omega (arith, v.bytes_read, c.read_listed.ensures.bytes_read.never_falls);
+    }
+
+pub returns-clause-reads : goal.returns-clause-reads
+returns-clause-reads g c told offs list =
+    let v = c.loop-turn.invariant in
+    record { no_more = omega (arith, v.most, (v.passed told offs list).count); never_falls = v.bytes_read }

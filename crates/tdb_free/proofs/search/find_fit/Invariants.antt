@@ -1,5 +1,5 @@
 -- The walk came so far along the free list, and the view is as it was.
-use Rattle.std.proofs.Common.{◌≡◌, ℕ, ◌+◌, ◌≤◌, ◌⊎◌, List, IsTrue}
+use Rattle.std.proofs.Common.{◌≡◌, ℕ, ◌+◌, ◌*◌, ◌≤◌, ◌⊎◌, List, IsTrue}
 use Rattle.std.specs.Prelude.{◌%◌}
 use Rattle.tdb_words.specs.Word.{word}
 use Rattle.tdb_space.specs.Frame.{Looked}
@@ -19,4 +19,5 @@ invariant-loop-turn g l = record {
   looked : Looked g.S.Space l.fn.s l.s;
   faults : g.S.Space.faults l.s ≡ g.S.Space.faults l.fn.s;
   bytes_read : g.S.Space.bytes_read l.fn.s ≤ g.S.Space.bytes_read l.s;
+  most : g.S.Space.bytes_read l.s ≤ g.S.Space.bytes_read l.fn.s + (4 + 24 * l._turn);
 }

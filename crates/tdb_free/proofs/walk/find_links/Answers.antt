@@ -1,5 +1,5 @@
 -- Both links are known once the walk has come to one, and one record more.
-use Rattle.std.proofs.Common.{◌≡◌, ℕ, ◌+◌, ◌≤◌, List, IsTrue, refl, sym, ◌∙◌, ap, subst, inl, inr, arith, rules}
+use Rattle.std.proofs.Common.{ℕ, ◌+◌, ◌≤◌, List, IsTrue, refl, sym, ◌∙◌, ap, subst, inl, inr, arith, rules}
 use Rattle.std.specs.Prelude.{IfSome}
 use Rattle.tdb_words.specs.Word.{word}
 use Rattle.tdb_space.specs.Form.{data_start, free_head}
@@ -66,4 +66,27 @@ loop-turn-preserved g c =
             | else-not-is_open-via-else-not-is_open w ↦
                 seen_far f img offs c.args.first c.known_at-to_first.result (l._turn + 1) l.here.at next most (first_seen told offs list) (sym w.if-not-is_open.ensures) first_up_to
           ];
+    }
+
+-- the word of one record more couldn't be read
+pub returns-in_err-read_word-clause-walked : goal.returns-in_err-read_word-clause-walked
+returns-in_err-read_word-clause-walked g c told offs list most first_up_to second_up_to =
+    let f = g.S.Space.form c.args.s.now in
+    let img = g.S.Space.image c.args.s.now in
+    let l = c.loop-turn in
+    let above : data_start f ≤ l.here.at = omega (arith, c.if-not-header_stands.ensures.above, c.hash_size.ensures, ap (λ x. x.chains) l.invariant.looked.form) in
+    let next = word f.order img l.here.at in
+    let far : l._turn + 1 ≤ most = elim c.else-not-is_open.branch [
+      | else-not-is_open-via-then-not-is_open+else-not-is_open-2 w ↦
+          seen_far f img offs c.args.second c.known_at-to_second.result (l._turn + 1) l.here.at next most
+          (subst (λ k. Seen f img offs c.args.second k (l._turn + 1) l.here.at next) (sym c.known_at-to_second.ensures) (seen_more f img offs c.args.second l.to_second l._turn l.here next (l.invariant.second_seen told offs list) above refl))
+          (sym w.if-not-is_open-2.ensures) second_up_to
+      | else-not-is_open-via-else-not-is_open w ↦
+          seen_far f img offs c.args.first c.known_at-to_first.result (l._turn + 1) l.here.at next most
+          (subst (λ k. Seen f img offs c.args.first k (l._turn + 1) l.here.at next) (sym c.known_at-to_first.ensures) (seen_more f img offs c.args.first l.to_first l._turn l.here next (l.invariant.first_seen told offs list) above refl))
+          (sym w.if-not-is_open.ensures) first_up_to
+    ] in
+    record {
+      no_more = omega (arith, l.invariant.most, far, c.read_word.ensures.bytes_read.no_more);
+      never_falls = omega (arith, l.invariant.bytes_read, c.read_word.ensures.bytes_read.never_falls);
     }
