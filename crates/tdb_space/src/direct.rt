@@ -92,6 +92,7 @@ impl<'a, D: Disk> Space for Direct<'a, D> {
     fn ready(&mut self, writes: u32, bytes: u64) -> Result<(), AllocError>
         ensures always { IsOk result }
         ensures room { OnOk result (IsReady without_bound (D.size self.old.disk.now) writes bytes) }
+        ensures unbounded { without_bound ≡ without_bound → IsOk result }
         ensures size { D.size self.new.disk.now ≡ D.size self.old.disk.now }
         ensures image { seen (D.history self.new.disk.now) ≡ seen (D.history self.old.disk.now) }
         ensures form { form_in self.new.header ≡ form_in self.old.header }

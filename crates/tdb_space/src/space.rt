@@ -1,12 +1,12 @@
 // A view of the bytes of one file.
 
-ghost use Rattle.std.specs.Prelude.{◌≡◌, ◌+◌, ◌%◌, ◌≤◌, ◌⊎◌, ℕ, Bool, List, IsTrue, false, length, take, drop, IfOk, OnOk, OnErr, MatchResult};
+ghost use Rattle.std.specs.Prelude.{◌≡◌, ◌+◌, ◌%◌, ◌≤◌, ◌⊎◌, ℕ, Bool, List, IsTrue, false, length, take, drop, IsOk, IfOk, OnOk, OnErr, MatchResult};
 ghost use Rattle.tdb_disk.specs.Count.{HasCause, RoseUpTo};
 ghost use Rattle.tdb_disk.specs.Image.{overlay, padded};
 ghost use Rattle.tdb_disk.specs.Stop.{Torn};
 ghost use Rattle.tdb_space.specs.DiskState.{DiskState};
 ghost use Rattle.tdb_space.specs.Form.{Form};
-ghost use Rattle.tdb_space.specs.Spare.{Spare, RoomFor, RoomUpTo, spent, SpentUpTo, IsReady};
+ghost use Rattle.tdb_space.specs.Spare.{Spare, without_bound, RoomFor, RoomUpTo, spent, SpentUpTo, IsReady};
 
 use crate::io::Io;
 use std::alloc::AllocError;
@@ -130,9 +130,11 @@ pub trait Space {
         ensures under { under self.new ≡ under self.old };
 
     /// Makes room: afterwards so many writes of so many bytes in all take no memory, nor do growths by up to a quarter
-    /// of the length, these bytes and 4096 more. It changes no byte. Fails only for want of memory.
+    /// of the length, these bytes and 4096 more. It changes no byte. Fails only for want of memory, and never where
+    /// what is spare has no bound, as over a disk.
     fn ready(&mut self, writes: u32, bytes: u64) -> Result<(), AllocError>
         ensures room { OnOk result (IsReady (spare self.new) (size self.old) writes bytes) }
+        ensures unbounded { spare self.old ≡ without_bound → IsOk result }
         ensures size { size self.new ≡ size self.old }
         ensures image { image self.new ≡ image self.old }
         ensures form { form self.new ≡ form self.old }
