@@ -1,4 +1,4 @@
--- How many syncs the turn makes that plans a commit.
+-- How many syncs the turns of a commit make that see to its undo area.
 use Rattle.std.proofs.Common.{ℕ, List, subst, sym}
 use Rattle.tdb_disk.specs.History.{History, seen}
 use Rattle.tdb_txn.specs.Answered.{AreaSyncs}
@@ -24,13 +24,13 @@ commit_plans p r before now (To.Blocked owner byte again) planned = tt
 commit_plans p r before now To.Nothing planned = tt
 commit_plans p r before now (To.Full len need) planned = tt
 commit_plans p r before now To.Memory planned = tt
-commit_plans p r before now (To.Done state) planned = tt
+commit_plans p r before now (To.Done state) planned = planned
 
--- what a step from a stage would make is what each turn from there makes that is a step
+-- what a turn from a stage would make that doesn't end is what each of them makes
 pub not_planned : (s : PrepareStage) (r : List ℕ) (before now : ℕ) (turn : PrepareTurn) → PlannedSyncs s r before now → PreparePlans s r before now turn
 not_planned s r before now (To.Step next) planned = planned
 not_planned s r before now (To.Blocked owner byte again) planned = tt
 not_planned s r before now To.Nothing planned = tt
 not_planned s r before now (To.Full len need) planned = tt
 not_planned s r before now To.Memory planned = tt
-not_planned s r before now (To.Done state) planned = tt
+not_planned s r before now (To.Done state) planned = planned

@@ -92,5 +92,9 @@ returns-in-Ok-Ready-clause-plans g c told r b R =
     let i = c.in-Ok-Ready in
     let a = c.args in
     let h = g.D.Disk.history a.d.now in
-    plan_syncs a.txn r b h R (g.D.Disk.syncs a.d.now) (g.D.Disk.syncs c.plan.new.d)
-    (λ may. subst (λ x. PlanSyncs a.txn (seen h) (g.D.Disk.syncs a.d.now) (g.D.Disk.syncs c.plan.new.d) (Ok x)) i.field-0-is (i.ensures.as_often told may))
+    let new = g.D.Disk.history c.plan.new.d in
+    let A = plan_answer a.txn a.limit r b h new R (Ok (Ready i.state)) (λ quiet may. subst (λ x. AnsweredRightly a.txn a.limit (seen h) new (Ok x)) i.field-0-is (i.ensures.answered told quiet may)) in (
+      A.0,
+      plan_syncs a.txn r b h R (g.D.Disk.syncs a.d.now) (g.D.Disk.syncs c.plan.new.d)
+          (λ may. subst (λ x. PlanSyncs a.txn (seen h) (g.D.Disk.syncs a.d.now) (g.D.Disk.syncs c.plan.new.d) (Ok x)) i.field-0-is (i.ensures.as_often told may)),
+    )

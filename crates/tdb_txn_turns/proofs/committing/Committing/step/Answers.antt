@@ -7,7 +7,7 @@ use Rattle.tdb_txn_turns.specs.Committings.{commit_row, commit_steps, commit_tur
 use Rattle.tdb_txn_turns.specs.Finishes.{finish_steps, finish_turn}
 use Rattle.tdb_txn_turns.specs.Holding.{HoldsRow, RowTurned}
 use Rattle.tdb_txn_turns.specs.Prepares.{prepare_row, prepare_steps, start_held}
-use Rattle.tdb_txn_turns.specs.PlanSyncs.{CommitPlans}
+use Rattle.tdb_txn_turns.specs.PlanSyncs.{CommitPlans, StepPlans}
 use Rattle.tdb_txn_turns.specs.Room.{CommitFull, PrepareFull}
 use Rattle.tdb_txn_turns.specs.declared.committing.Committing.TheVariants.{Preparing}
 use Rattle.tdb_txn_turns.specs.declared.finishing.FinishTurn.TheVariants as To
@@ -67,7 +67,7 @@ returns-in-Step-clause-full g c told r b K = subst (λ s. CommitFull s c.args.li
 pub returns-in-Done-clause-full : goal.returns-in-Done-clause-full
 returns-in-Done-clause-full g c told r b K = subst (λ s. CommitFull s c.args.limit r (Ends Done)) (sym c.in-Finishing.is) never_done
 
--- how many syncs the turn that plans makes
+-- how many syncs a turn makes that sees to the undo area
 pub returns-in_ok-turn-in-Preparing-clause-plans : goal.returns-in_ok-turn-in-Preparing-clause-plans
 returns-in_ok-turn-in-Preparing-clause-plans g c =
     let i = c.in_ok-turn-in-Preparing in
@@ -77,3 +77,6 @@ returns-in_ok-turn-in-Preparing-clause-plans g c =
     let now = g.D.Disk.syncs c.step.new.d in
     subst (λ s. IsTrue g.D.Disk.tells → (r b : List ℕ) → KnowsCommit s h r b → CommitPlans s r before now c.go_on.result) (sym c.in-Preparing.is)
     (λ told r b K. subst (CommitPlans (Preparing p) r before now) (sym c.go_on.ensures.result) (commit_plans p r before now i.turn (i.ensures.plans told r b K)))
+
+pub returns-in-Step-clause-plans : goal.returns-in-Step-clause-plans
+returns-in-Step-clause-plans g c told r b K = subst (λ s. StepPlans s r (g.D.Disk.syncs c.args.d.now) (g.D.Disk.syncs c.step-in-Finishing.new.d)) (sym c.in-Finishing.is) tt

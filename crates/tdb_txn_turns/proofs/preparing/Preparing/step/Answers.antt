@@ -6,6 +6,7 @@ use Rattle.tdb_law.specs.Commands.Turn.{Step, Ends}
 use Rattle.tdb_txn.specs.Commit.{IsFilled, IsPrepared}
 use Rattle.tdb_txn.specs.CommitStates.{planned_plan, filled_plan, prepared_plan}
 use Rattle.tdb_txn.specs.Planned.{IsPlannedOn}
+use Rattle.tdb_txn_turns.specs.Commits.{Carries}
 use Rattle.tdb_txn_turns.specs.Prepares.{at_stage, prepare_turn, KnowsStage, StageFits, PrepareMade}
 use Rattle.tdb_txn_turns.specs.PlanSyncs.{PlannedSyncs, PreparePlans}
 use Rattle.tdb_txn_turns.specs.Room.{PrepareFull}
@@ -124,7 +125,7 @@ returns-in_ok-fill-in-Planned-clause-full g c told r b K = subst (λ s. PrepareF
 pub returns-in_ok-open_gate-in-Filled-clause-full : goal.returns-in_ok-open_gate-in-Filled-clause-full
 returns-in_ok-open_gate-in-Filled-clause-full g c told r b K = subst (λ s. PrepareFull s c.args.limit r (Ends Done)) (sym c.in-Filled.is) never_done
 
--- how many syncs the plan makes
+-- how many syncs a turn makes that sees to the undo area
 pub returns-in-Unchanged-clause-plans : goal.returns-in-Unchanged-clause-plans
 returns-in-Unchanged-clause-plans g c told r b K = tt
 
@@ -143,7 +144,10 @@ returns-in-Locked-clause-plans g c =
     c.plan_turn.ensures.plans
 
 pub returns-in_ok-fill-in-Planned-clause-plans : goal.returns-in_ok-fill-in-Planned-clause-plans
-returns-in_ok-fill-in-Planned-clause-plans g c told r b K = subst (λ s. PlannedSyncs s r (g.D.Disk.syncs c.args.d.now) (g.D.Disk.syncs c.fill.new.d)) (sym c.in-Planned.is) tt
+returns-in_ok-fill-in-Planned-clause-plans g c told r b K =
+    let h = g.D.Disk.history c.args.d.now in
+    let C : Carries (IsPlannedOn (planned_plan c.in-Planned.state)) h r b = subst (λ s. KnowsStage s h r b) c.in-Planned.is K in
+    subst (λ s. PlannedSyncs s r (g.D.Disk.syncs c.args.d.now) (g.D.Disk.syncs c.fill.new.d)) (sym c.in-Planned.is) (c.in_ok-fill-in-Planned.ensures.filled told C.before C.after C.state).1
 
 pub returns-in_ok-open_gate-in-Filled-clause-plans : goal.returns-in_ok-open_gate-in-Filled-clause-plans
-returns-in_ok-open_gate-in-Filled-clause-plans g c told r b K = tt
+returns-in_ok-open_gate-in-Filled-clause-plans g c told r b K = subst (λ s. PlannedSyncs s r (g.D.Disk.syncs c.args.d.now) (g.D.Disk.syncs c.open_gate.new.d)) (sym c.in-Filled.is) tt
