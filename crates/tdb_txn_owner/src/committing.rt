@@ -16,7 +16,7 @@ ghost use Rattle.tdb_txn_owner.specs.declared.stage.Stage.TheVariants as Stage;
 ghost use Rattle.tdb_txn_owner.specs.Stages.{stage_task, Known, IsFitLeft, IsSide, KnowsFile};
 ghost use Rattle.tdb_txn_owner.specs.Turned.{MayTurn, StageTurned};
 ghost use Rattle.tdb_txn_owner.specs.Wanting.{RecordsGo, StepGoesOn};
-ghost use Rattle.tdb_txn_owner.specs.Syncs.{HolderSyncs};
+ghost use Rattle.tdb_txn_owner.specs.Syncs.{HolderPlans, HolderSyncs};
 
 use crate::stage::{Stage, Went};
 use tdb_disk::Disk;
@@ -59,6 +59,7 @@ pub(crate) fn commit_turn<D: Disk>(
     ensures goes_on { IfOk result (λ went. StepGoesOn went.turn went.stage) }
     ensures stops { IsTrue D.tells → (r b : List ℕ) → KnowsCommit commit (D.history d.old) r b → LeavesOnly (D.history d.old) (D.history d.new) (CommitMayLeave commit r b) }
     ensures syncs { IfOk result (λ went. HolderSyncs (Stage.Committing commit) went.turn (D.syncs d.old) (D.syncs d.new)) }
+    ensures plans { IfOk result (λ went. IsTrue D.tells → (r b : List ℕ) → KnowsCommit commit (D.history d.old) r b → HolderPlans (Stage.Committing commit) r went.turn (D.syncs d.old) (D.syncs d.new)) }
     ensures cause { HasCause (D.faults d.old) (D.faults d.new) result }
 {
     let turn = commit.step(d, locks, owner, limit)?;

@@ -16,7 +16,7 @@ ghost use Rattle.tdb_txn_owner.specs.Stages.{stage_task, Known, IsFitLeft, IsSid
 ghost use Rattle.tdb_txn_owner.specs.Turned.{MayTurn, StageTurned};
 ghost use Rattle.tdb_txn_owner.specs.Wents.{has_changed, prepare_went};
 ghost use Rattle.tdb_txn_owner.specs.Wanting.{RecordsGo, StepGoesOn};
-ghost use Rattle.tdb_txn_owner.specs.Syncs.{HolderSyncs};
+ghost use Rattle.tdb_txn_owner.specs.Syncs.{HolderPlans, HolderSyncs};
 
 use crate::stage::{PreparedTxn, Stage, Went};
 use tdb_disk::Disk;
@@ -79,6 +79,7 @@ pub(crate) fn prepare_turn<D: Disk>(
     ensures goes_on { IfOk result (λ went. StepGoesOn went.turn went.stage) }
     ensures stops { IsTrue D.tells → (r b : List ℕ) → KnowsStage preparing.stage (D.history d.old) r b → LeavesOnly (D.history d.old) (D.history d.new) (Reopens r) }
     ensures syncs { IfOk result (λ went. HolderSyncs (Stage.Preparing preparing) went.turn (D.syncs d.old) (D.syncs d.new)) }
+    ensures plans { IfOk result (λ went. IsTrue D.tells → (r b : List ℕ) → KnowsStage preparing.stage (D.history d.old) r b → HolderPlans (Stage.Preparing preparing) r went.turn (D.syncs d.old) (D.syncs d.new)) }
     ensures cause { HasCause (D.faults d.old) (D.faults d.new) result }
 {
     let changed = has_change(&preparing.stage);

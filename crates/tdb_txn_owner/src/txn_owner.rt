@@ -26,7 +26,7 @@ ghost use Rattle.tdb_txn_owner.specs.Holders.{is_idle, left_stage, stage_depth, 
 ghost use Rattle.tdb_txn_owner.specs.Stages.{is_closing, stage_records, stage_task, Known, IsFit, IsFitLeft, IsSide, KnowsFile, MayBeGiven};
 ghost use Rattle.tdb_txn_owner.specs.Turned.{BeginsOn, MayTurn, StageTurned};
 ghost use Rattle.tdb_txn_owner.specs.Room.{StageFull};
-ghost use Rattle.tdb_txn_owner.specs.Syncs.{HolderSyncs};
+ghost use Rattle.tdb_txn_owner.specs.Syncs.{HolderPlans, HolderSyncs};
 ghost use Rattle.tdb_txn_owner.specs.Wanting.{records_at, stage_wants, wanted_by, RecordsGo, StepGoesOn};
 
 use crate::committing::commit_turn;
@@ -148,6 +148,7 @@ fn stage_turn<D: Disk>(
     ensures goes_on { IfOk result (λ went. StepGoesOn went.turn went.stage) }
     ensures stops { IsTrue D.tells → (f : Form) (k : Known) → KnowsFile f stage (D.history d.old) k → LeavesOnly (D.history d.old) (D.history d.new) (StageMayLeave stage (D.history d.old) k) }
     ensures syncs { IfOk result (λ went. HolderSyncs stage went.turn (D.syncs d.old) (D.syncs d.new)) }
+    ensures plans { IfOk result (λ went. IsTrue D.tells → (f : Form) (k : Known) → KnowsFile f stage (D.history d.old) k → HolderPlans stage k.file went.turn (D.syncs d.old) (D.syncs d.new)) }
     ensures cause { IsTrue D.tells → (f : Form) (k : Known) → KnowsFile f stage (D.history d.old) k → HasCause (D.faults d.old) (D.faults d.new) result }
     ensures done { OnOk result (D.faults d.new ≡ D.faults d.old) }
     ensures rises { D.faults d.old ≤ D.faults d.new }
@@ -391,6 +392,7 @@ impl TxnOwner {
         ensures goes_on { IfOk result (λ moved. StepGoesOn moved.turn (left_stage moved.holder)) }
         ensures stops { IsTrue D.tells → (f : Form) (k : Known) → KnowsFile f self.stage (D.history d.old) k → LeavesOnly (D.history d.old) (D.history d.new) (StageMayLeave self.stage (D.history d.old) k) }
         ensures syncs { IfOk result (λ moved. HolderSyncs self.stage moved.turn (D.syncs d.old) (D.syncs d.new)) }
+        ensures plans { IfOk result (λ moved. IsTrue D.tells → (f : Form) (k : Known) → KnowsFile f self.stage (D.history d.old) k → HolderPlans self.stage k.file moved.turn (D.syncs d.old) (D.syncs d.new)) }
         ensures cause { IsTrue D.tells → (f : Form) (k : Known) → KnowsFile f self.stage (D.history d.old) k → HasCause (D.faults d.old) (D.faults d.new) result }
         ensures done { OnOk result (D.faults d.new ≡ D.faults d.old) }
         ensures rises { D.faults d.old ≤ D.faults d.new }

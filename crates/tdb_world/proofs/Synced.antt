@@ -3,6 +3,7 @@ use Rattle.std.proofs.Common.{◌≡◌, ℕ, Bool, true, false, inl, Some, None
 use Rattle.tdb_disk.specs.Count.{RoseUpTo}
 use Rattle.tdb_locks.specs.declared.kind.Kind.{Kind}
 use Rattle.tdb_locks.specs.declared.turn.Turn.{Turn}
+use Rattle.tdb_locks.specs.declared.turn.Turn.TheVariants.{Blocked}
 use Rattle.tdb_txn_turns.specs.declared.committing.Committing.TheVariants as Commits
 use Rattle.tdb_txn_turns.specs.Prepares.{StageSyncs}
 use Rattle.tdb_txn_turns.specs.declared.preparing.PrepareStage.{PrepareStage}
@@ -42,14 +43,14 @@ plan_still (Plans.Locked txn) numbered kind n ws = inl refl
 plan_still (Plans.Planned state) numbered kind n ws = absurd (cc ws)
 plan_still (Plans.Filled state) numbered kind n ws = absurd (cc ws)
 
-pub records_still : (stage : Stage) (kind : Kind) (n : ℕ) → stage_wants stage ≡ Wants.Records kind → TurnSyncs stage n n
-records_still (At.Starting s) kind n ws = still_start n
-records_still (At.Open txn command) kind n ws = refl
-records_still (At.Committing (Commits.Preparing p)) kind n ws = plan_still p.stage p.numbered kind n ws
-records_still (At.Committing (Commits.Finishing s)) kind n ws = absurd (cc ws)
-records_still (At.Preparing p) kind n ws = plan_still p.stage p.numbered kind n ws
-records_still (At.Prepared left command) kind n ws = absurd (cc ws)
-records_still (At.Finishing s) kind n ws = absurd (cc ws)
+pub records_still : (stage : Stage) (kind : Kind) (owner byte n : ℕ) → stage_wants stage ≡ Wants.Records kind → TurnSyncs stage (Blocked owner byte) n n
+records_still (At.Starting s) kind owner byte n ws = still_start n
+records_still (At.Open txn command) kind owner byte n ws = refl
+records_still (At.Committing (Commits.Preparing p)) kind owner byte n ws = plan_still p.stage p.numbered kind n ws
+records_still (At.Committing (Commits.Finishing s)) kind owner byte n ws = absurd (cc ws)
+records_still (At.Preparing p) kind owner byte n ws = plan_still p.stage p.numbered kind n ws
+records_still (At.Prepared left command) kind owner byte n ws = absurd (cc ws)
+records_still (At.Finishing s) kind owner byte n ws = absurd (cc ws)
 
 -- who is among the others isn't the one aside
 pub not_aside : (w : Whole) (who : ℕ) (h : HolderState) → IsAmong w who → w.aside ≡ Some h → who ≡ h.owner → ⊥

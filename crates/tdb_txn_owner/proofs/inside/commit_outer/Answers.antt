@@ -14,6 +14,7 @@ use Rattle.tdb_txn_owner.specs.Turned.{MayTurn, StageTurned}
 use Rattle.tdb_txn_owner.proofs.OpenEnds.{commit_goes, knows_first, open_stops, refuses, commit_records_go}
 use Rattle.tdb_txn_owner.proofs.Opened.{told_none, told_why, weaker}
 use Rattle.tdb_txn_owner.proofs.Sided.{same_task}
+use Rattle.tdb_txn_owner.proofs.Synced.{first_of_commit}
 use Rattle.tdb_txn_owner.proofs.inside.commit_outer.Goals as goal
 
 pub returns-in-Some-clause-turned : goal.returns-in-Some-clause-turned
@@ -54,3 +55,10 @@ returns-clause-records g c =
     let a = c.args in
     weaker c.commit_first.result _ _
     (λ went go. commit_records_go a.txn c.requires.outer (c.end_refusal.ensures.whole c.in_default.is) (c.end_refusal.ensures.unlocked c.in_default.is) went.turn went.stage go) c.commit_first.ensures.records
+
+-- its first turn makes no sync
+pub returns-clause-syncs : goal.returns-clause-syncs
+returns-clause-syncs g c =
+    let own = c.args.txn.own in
+    weaker c.commit_first.result _ _
+    (λ went S. first_of_commit own.txn own.changed own.numbered went.turn (g.D.Disk.syncs c.args.d.now) (g.D.Disk.syncs c.commit_first.new.d) S) c.commit_first.ensures.syncs

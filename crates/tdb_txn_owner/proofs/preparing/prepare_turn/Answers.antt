@@ -8,12 +8,14 @@ use Rattle.tdb_commands.specs.InLaw.{law_turn}
 use Rattle.tdb_txn_owner.specs.declared.stage.Stage.TheVariants as Stage
 use Rattle.tdb_txn_owner.specs.Ends.{task_of}
 use Rattle.tdb_txn_owner.specs.Turned.{MayTurn, StageTurned}
+use Rattle.tdb_txn_owner.specs.Syncs.{HolderPlans, HolderSyncs}
 use Rattle.tdb_txn_owner.specs.Wents.{has_changed, prepare_went}
 use Rattle.tdb_txn_owner.proofs.Readied.{prepare_turned}
 use Rattle.tdb_txn_owner.proofs.Sided.{same_task}
 use Rattle.tdb_txn_owner.specs.Wanting.{RecordsGo}
 use Rattle.tdb_txn_owner.proofs.Recorded.{prepare_goes}
 use Rattle.tdb_txn_owner.proofs.Room.{prepare_went_full}
+use Rattle.tdb_txn_owner.proofs.Synced.{prepare_planned, prepare_syncs}
 use Rattle.tdb_txn_owner.proofs.preparing.prepare_turn.Goals as goal
 
 pub returns-clause-turned : goal.returns-clause-turned
@@ -41,3 +43,22 @@ returns-clause-records g c =
     let i = c.in_ok-turn in
     subst (λ went. RecordsGo (Stage.Preparing c.args.preparing) went.turn went.stage)
     (sym (c.prepare_left.ensures ∙ ap (λ changed. prepare_went changed i.turn) c.has_change-changed.ensures)) (prepare_goes c.args.preparing i.turn i.ensures.leads)
+
+-- how many syncs it makes
+pub returns-clause-syncs : goal.returns-clause-syncs
+returns-clause-syncs g c =
+    let p = c.args.preparing in
+    let i = c.in_ok-turn in
+    let before = g.D.Disk.syncs c.args.d.now in
+    let now = g.D.Disk.syncs c.step.new.d in
+    subst (λ went. HolderSyncs (Stage.Preparing p) went.turn before now) (sym (c.prepare_left.ensures ∙ ap (λ changed. prepare_went changed i.turn) c.has_change-changed.ensures))
+    (prepare_syncs p (has_changed p.stage) i.turn before now i.ensures.leads i.ensures.syncs)
+
+pub returns-clause-plans : goal.returns-clause-plans
+returns-clause-plans g c told r b K =
+    let p = c.args.preparing in
+    let i = c.in_ok-turn in
+    let before = g.D.Disk.syncs c.args.d.now in
+    let now = g.D.Disk.syncs c.step.new.d in
+    subst (λ went. HolderPlans (Stage.Preparing p) r went.turn before now) (sym (c.prepare_left.ensures ∙ ap (λ changed. prepare_went changed i.turn) c.has_change-changed.ensures))
+    (prepare_planned p r (has_changed p.stage) i.turn before now (i.ensures.plans told r b K))

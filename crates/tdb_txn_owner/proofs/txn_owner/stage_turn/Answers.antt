@@ -13,6 +13,7 @@ use Rattle.tdb_txn_owner.specs.Stages.{IsFit, KnowsFile}
 use Rattle.tdb_txn_owner.proofs.HolderTurns.{open_form, TurnsAt}
 use Rattle.tdb_txn_owner.proofs.Opened.{weaker, weaker_with}
 use Rattle.tdb_txn_owner.proofs.Room.{open_stage, prepared_spares, start_spares, turned_never, FullsAt}
+use Rattle.tdb_txn_owner.proofs.Synced.{never_planned, PlansAt}
 use Rattle.tdb_txn_owner.proofs.txn_owner.stage_turn.Goals as goal
 
 pub returns-in-Open-clause-stops : goal.returns-in-Open-clause-stops
@@ -132,3 +133,56 @@ returns-in-Finishing-clause-full g c =
     (λ went turn told. subst (λ stage. FullsAt f o a.owner a.locks.now stage (g.D.Disk.history a.d.now) (law_turn went.turn)) (sym c.in-Finishing.is)
     (λ table k past s t S K begins has M. let T = turn told f o table k past s t S K has M in let O = S.own.has in
     turned_never f table _ _ _ _ _ _ _ _ t (law_turn went.turn) T.turned (prepared_spares f s.own S.own.txn 4 O.outer.has O.outer.outer O.prepared_is t.command))) c.finish_turn.ensures.turned
+
+-- how many syncs a step makes that sees to the undo area, as its own function tells it; nothing is said of the others
+pub returns-in-Starting-clause-plans : goal.returns-in-Starting-clause-plans
+returns-in-Starting-clause-plans g c =
+    let h = g.D.Disk.history c.args.d.now in
+    let before = g.D.Disk.syncs c.args.d.now in
+    let now = g.D.Disk.syncs c.start_turn.new.d in
+    weaker c.start_turn.result _ _
+    (λ went turn told. subst (λ stage. PlansAt stage h went.turn before now) (sym c.in-Starting.is)
+    (never_planned (Stage.Starting c.in-Starting.starting) h went.turn before now (λ r. tt))) c.start_turn.ensures.turned
+
+pub returns-in-Open-clause-plans : goal.returns-in-Open-clause-plans
+returns-in-Open-clause-plans g c =
+    let h = g.D.Disk.history c.args.d.now in
+    let before = g.D.Disk.syncs c.args.d.now in
+    let now = g.D.Disk.syncs c.open_turn.new.d in
+    weaker c.open_turn.result _ _
+    (λ went turn told. subst (λ stage. PlansAt stage h went.turn before now) (sym c.in-Open.is)
+    (never_planned (Stage.Open c.in-Open.txn c.in-Open.command) h went.turn before now (λ r. tt))) c.open_turn.ensures.turned
+
+pub returns-in-Prepared-clause-plans : goal.returns-in-Prepared-clause-plans
+returns-in-Prepared-clause-plans g c =
+    let h = g.D.Disk.history c.args.d.now in
+    let before = g.D.Disk.syncs c.args.d.now in
+    let now = g.D.Disk.syncs c.prepared_turn.new.d in
+    weaker c.prepared_turn.result _ _
+    (λ went turn told. subst (λ stage. PlansAt stage h went.turn before now) (sym c.in-Prepared.is)
+    (never_planned (Stage.Prepared c.in-Prepared.left c.in-Prepared.command) h went.turn before now (λ r. tt))) c.prepared_turn.ensures.turned
+
+pub returns-in-Finishing-clause-plans : goal.returns-in-Finishing-clause-plans
+returns-in-Finishing-clause-plans g c =
+    let h = g.D.Disk.history c.args.d.now in
+    let before = g.D.Disk.syncs c.args.d.now in
+    let now = g.D.Disk.syncs c.finish_turn.new.d in
+    weaker c.finish_turn.result _ _
+    (λ went turn told. subst (λ stage. PlansAt stage h went.turn before now) (sym c.in-Finishing.is)
+    (never_planned (Stage.Finishing c.in-Finishing.finishing) h went.turn before now (λ r. tt))) c.finish_turn.ensures.turned
+
+pub returns-in-Committing-clause-plans : goal.returns-in-Committing-clause-plans
+returns-in-Committing-clause-plans g c =
+    let h = g.D.Disk.history c.args.d.now in
+    let before = g.D.Disk.syncs c.args.d.now in
+    let now = g.D.Disk.syncs c.commit_turn.new.d in
+    weaker c.commit_turn.result _ _
+    (λ went plans told. subst (λ stage. PlansAt stage h went.turn before now) (sym c.in-Committing.is) (λ f k K. plans told k.file k.image K.at.0)) c.commit_turn.ensures.plans
+
+pub returns-in-Preparing-clause-plans : goal.returns-in-Preparing-clause-plans
+returns-in-Preparing-clause-plans g c =
+    let h = g.D.Disk.history c.args.d.now in
+    let before = g.D.Disk.syncs c.args.d.now in
+    let now = g.D.Disk.syncs c.prepare_turn.new.d in
+    weaker c.prepare_turn.result _ _
+    (λ went plans told. subst (λ stage. PlansAt stage h went.turn before now) (sym c.in-Preparing.is) (λ f k K. plans told k.file k.image K.at)) c.prepare_turn.ensures.plans

@@ -7,6 +7,8 @@ use Rattle.tdb_txn_owner.specs.Holders.{HolderState}
 use Rattle.tdb_txn_owner.proofs.HolderTurns.{alone_goes_on, busy_task, may_alone, own_table, TurnsAt}
 use Rattle.tdb_txn_owner.specs.Room.{StageFull}
 use Rattle.tdb_txn_owner.proofs.Room.{FullsAt}
+use Rattle.tdb_txn_owner.proofs.Synced.{PlansAt}
+use Rattle.tdb_txn_owner.specs.Syncs.{HolderPlans}
 use Rattle.tdb_txn_owner.proofs.txn_owner.TxnOwner.turn.Goals as goal
 
 pub returns-clause-blocked : goal.returns-clause-blocked
@@ -36,3 +38,14 @@ returns-clause-full g c told k past s S K begins =
     let fulls = subst (λ (w : HolderState). FullsAt f o w.owner w.locks w.stage (g.D.Disk.history c.args.d.now) (law_turn went.turn)) c.self.view_is (c.in_ok-went.ensures.full told) in
     subst (λ u. StageFull f o.limit v.stage k s.own (law_turn u)) (sym c.after_turn.ensures.turn)
     (fulls (own_table f o v.owner v.locks v.stage k past s busy.0 S busy.1) k past s busy.0 S K begins busy.1 (may_alone f o v.owner v.locks v.stage k past s busy.0 S busy.1))
+
+-- and how many syncs a step makes that sees to the undo area
+pub returns-clause-plans : goal.returns-clause-plans
+returns-clause-plans g c told f k K =
+    let v = c.args.self in
+    let went = c.in_ok-went.went in
+    let h = g.D.Disk.history c.args.d.now in
+    let before = g.D.Disk.syncs c.args.d.now in
+    let now = g.D.Disk.syncs c.stage_turn.new.d in
+    let plans = subst (λ (w : HolderState). PlansAt w.stage h went.turn before now) c.self.view_is (c.in_ok-went.ensures.plans told) in
+    subst (λ u. HolderPlans v.stage k.file u before now) (sym c.after_turn.ensures.turn) (plans f k K)

@@ -147,7 +147,7 @@ returns-in-Starved-clause-stops g c = λ told state S safe.
 pub returns-in-Blocked-clause-syncs : goal.returns-in-Blocked-clause-syncs
 returns-in-Blocked-clause-syncs g c =
     let wants = barred_records c.self.inside.openers c.owner-who.result c.in-Blocked.owner c.in-Blocked.byte c.wants-wants.result (c.in-Blocked.ensures.blocked c.in-Blocked.owner c.in-Blocked.byte refl) in
-    records_still c.args.holder.stage wants.0 (g.D.Disk.syncs c.args.d.now) (sym c.wants-wants.ensures.stage ∙ wants.1)
+    records_still c.args.holder.stage wants.0 c.in-Blocked.owner c.in-Blocked.byte (g.D.Disk.syncs c.args.d.now) (sym c.wants-wants.ensures.stage ∙ wants.1)
 
 pub returns-in-Taken-clause-full : goal.returns-in-Taken-clause-full
 returns-in-Taken-clause-full g c =
