@@ -80,7 +80,7 @@ pub took_turn : {E : Type 0} (tells : Bool) (old new : OverFile) (who : ℕ) (r 
     → IfOk r (λ turn. IsTrue tells → GoesAsPrepared old.world old.history (law_opener who) (law_turn turn))
     → OnOk r (IsTrue tells → (state : State) → IsStateOf old.world old.history state → IsSafe (form_at old.world) old.history → (IsChanging (form_at old.world) state (law_opener who) → ⊥)
     → IsSafe (form_at old.world) new.history)
-    → IfOk r (λ turn. SyncsByStage old.world who turn old.syncs new.syncs)
+    → IfOk r (λ turn. SyncsByStage tells old.world old.history who turn old.syncs new.syncs)
     → IfOk r (λ turn. turn ≡ Step → HasCommand new.world who)
     → IfOk r (λ turn. IsTrue tells → IsIdleAfter old.world new.world old.history who turn)
     → OnOk r (new.world.stale ≡ false) → OnOk r (old.size ≤ new.size)

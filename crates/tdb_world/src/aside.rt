@@ -24,7 +24,7 @@ ghost use Rattle.tdb_world.specs.Stopped.{StoppedAside, StopsRightly};
 ghost use Rattle.tdb_world.specs.Stops.{IsSafe, TurnMayLeave};
 ghost use Rattle.tdb_world.specs.declared.aside.Claim.TheVariants as Claim;
 ghost use Rattle.tdb_txn_owner.specs.Syncs.{HolderSyncs};
-ghost use Rattle.tdb_world.specs.Syncs.{SyncsByStage};
+ghost use Rattle.tdb_world.specs.Syncs.{PlansAside, SyncsByStage};
 
 use crate::all_openers::AllOpeners;
 use std::mem;
@@ -104,6 +104,7 @@ impl AllOpeners {
         ensures safe { OnOk result (IsTrue D.tells → (state : State) → let f = form_at self.old in IsStateOf (with_aside self.old holder) (D.history d.old) state → IsSafe f (D.history d.old)
             → IsSafe f (D.history d.new)) }
         ensures syncs { IfOk result (λ turn. HolderSyncs holder.stage turn (D.syncs d.old) (D.syncs d.new)) }
+        ensures plans { IfOk result (λ turn. IsTrue D.tells → PlansAside (with_aside self.old holder) holder (D.history d.old) turn (D.syncs d.old) (D.syncs d.new)) }
         ensures busy { IfOk result (λ turn. turn ≡ Turn.Step → HasCommand self.new holder.owner) }
         ensures header { OnOk result (self.new.openers.header ≡ self.old.openers.header) }
         ensures options { OnOk result (self.new.openers.options ≡ self.old.openers.options) }
@@ -149,6 +150,8 @@ impl AllOpeners {
             ClaimStands self.old holder (seen (D.history d.old)) (D.size d.old) before x
             → IsStateOf (record self.old { openers = before; aside = Some holder }) (D.history d.old) state → IsSafe f (D.history d.old) → IsSafe f (D.history d.new)) }
         ensures syncs { IfOk result (λ turn. HolderSyncs holder.stage turn (D.syncs d.old) (D.syncs d.new)) }
+        ensures plans { IfOk result (λ turn. IsTrue D.tells → (before : Openers) (x : Opener) → ClaimStands self.old holder (seen (D.history d.old)) (D.size d.old) before x
+            → PlansAside (record self.old { openers = before; aside = Some holder }) holder (D.history d.old) turn (D.syncs d.old) (D.syncs d.new)) }
         ensures busy { IfOk result (λ turn. turn ≡ Turn.Step → HasCommand self.new holder.owner) }
         ensures header { OnOk result (self.new.openers.header ≡ self.old.openers.header) }
         ensures options { OnOk result (self.new.openers.options ≡ self.old.openers.options) }
@@ -220,7 +223,7 @@ impl AllOpeners {
             → LeavesOnly (D.history d.old) (D.history d.new) (TurnMayLeave f state (law_opener who)) }
         ensures safe { OnOk result (IsTrue D.tells → (state : State) → let f = form_at self.old in IsStateOf self.old (D.history d.old) state → IsSafe f (D.history d.old)
             → IsSafe f (D.history d.new)) }
-        ensures syncs { IfOk result (λ turn. SyncsByStage self.old who turn (D.syncs d.old) (D.syncs d.new)) }
+        ensures syncs { IfOk result (λ turn. SyncsByStage D.tells self.old (D.history d.old) who turn (D.syncs d.old) (D.syncs d.new)) }
         ensures busy { IfOk result (λ turn. turn ≡ Turn.Step → HasCommand self.new who) }
         ensures header { OnOk result (self.new.openers.header ≡ self.old.openers.header) }
         ensures options { OnOk result (self.new.openers.options ≡ self.old.openers.options) }

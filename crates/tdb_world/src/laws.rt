@@ -2,7 +2,7 @@
 ghost use Rattle.tdb_world.specs.Died.{StatesAreRead};
 ghost use Rattle.tdb_world.specs.Prepared.{PreparedCommitGoesOn, PreparedCommitIsShort};
 ghost use Rattle.tdb_world.specs.Stops.{TransactionsAreSafe};
-ghost use Rattle.tdb_world.specs.Syncs.{CommitsSyncSeldom};
+ghost use Rattle.tdb_world.specs.Syncs.{CommitsSyncExactly, CommitsSyncSeldom};
 
 /// The file, undone where its gate is open, has the map and the sequence number of each state that the world may have:
 /// between the turns of a commit too, and in a stale world. The law is over all worlds and histories; the function
@@ -26,7 +26,10 @@ pub fn prepared_commits_go_on()
 {}
 
 /// By what each turn of a Commit makes (`SyncsByStage`), a whole Commit makes nine syncs at most, and one of a prepared
-/// transaction two. The law is over all Commits; the function does nothing.
+/// transaction two. Over a file that tells its bytes it makes none where nothing changes, and else four where the undo
+/// area has room for all that changes, seven where there is none yet, and nine where another takes its place. The laws
+/// are over all Commits; the function does nothing.
 pub fn commits_sync_seldom()
-    ensures law { CommitsSyncSeldom }
+    ensures seldom { CommitsSyncSeldom }
+    ensures exactly { CommitsSyncExactly }
 {}

@@ -30,7 +30,8 @@ impl AllOpeners {
     ///
     /// Cost: that of the command's turn, and a search in the lock table; nothing is passed over that doesn't belong to
     /// it. A turn of a Start, a Commit or a Prepare, or one that ends a transaction, syncs the disk as often as its
-    /// stage says, which makes nine times at most for a Commit; one that only looks at the file never does.
+    /// stage says. That makes four times for a Commit that keeps the undo area, seven with a first one, nine with one
+    /// that takes the place of another, and none where nothing changes. A turn that only looks at the file never does.
     pub(crate) fn turn<D: Disk>(&mut self, d: &mut D, who: u32) -> Result<Turn, Io>
         requires named { 1 ≤ who }
         requires busy { HasCommand self.old who }
@@ -47,7 +48,7 @@ impl AllOpeners {
             → LeavesOnly (D.history d.old) (D.history d.new) (TurnMayLeave f state (law_opener who)) }
         ensures safe { OnOk result (IsTrue D.tells → (state : State) → let f = form_at self.old in IsStateOf self.old (D.history d.old) state → IsSafe f (D.history d.old) → (IsChanging f state (law_opener who) → ⊥)
             → IsSafe f (D.history d.new)) }
-        ensures syncs { IfOk result (λ turn. SyncsByStage self.old who turn (D.syncs d.old) (D.syncs d.new)) }
+        ensures syncs { IfOk result (λ turn. SyncsByStage D.tells self.old (D.history d.old) who turn (D.syncs d.old) (D.syncs d.new)) }
         ensures no_sync { (state : State) → IsStateOf self.old (D.history d.old) state → OnlyLooks (form_at self.old) state (law_opener who) → D.syncs d.new ≡ D.syncs d.old }
         ensures busy { IfOk result (λ turn. turn ≡ Turn.Step → HasCommand self.new who) }
         ensures header { OnOk result (self.new.openers.header ≡ self.old.openers.header) }

@@ -44,7 +44,7 @@ pub record TookTurn (tells : Bool) (old new : OverFile) (who : ℕ) (turn : Turn
   pub waits : StartWaits old.world who (law_turn turn)
   pub prepared : IsTrue tells → GoesAsPrepared old.world old.history (law_opener who) (law_turn turn)
   pub safe : IsTrue tells → (state : State) → IsSafeFor old who state → IsSafe (form_at old.world) new.history
-  pub syncs : SyncsByStage old.world who turn old.syncs new.syncs
+  pub syncs : SyncsByStage tells old.world old.history who turn old.syncs new.syncs
   pub busy : turn ≡ Step → HasCommand new.world who
   pub idle : IsTrue tells → (state : State) (reply : Reply) → HasState old state → OutlivesCommand state (law_opener who) → turn ≡ Done reply → HasNoCommand new.world who
   pub fresh : new.world.stale ≡ false

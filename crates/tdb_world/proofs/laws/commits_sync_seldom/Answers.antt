@@ -1,6 +1,6 @@
--- The law of how often a Commit syncs.
-use Rattle.tdb_world.proofs.Seldom.{commits_seldom}
+-- The laws of how often a Commit syncs.
+use Rattle.tdb_world.proofs.Seldom.{commits_exactly, commits_seldom}
 use Rattle.tdb_world.proofs.laws.commits_sync_seldom.Goals as goal
 
 pub returns : goal.returns
-returns c = record { law = commits_seldom }
+returns c = record { seldom = commits_seldom; exactly = commits_exactly }

@@ -5,12 +5,14 @@ use Rattle.tdb_disk.specs.Stop.{LeavesOnly}
 use Rattle.tdb_locks.specs.declared.turn.Turn.TheVariants as Turn
 use Rattle.tdb_commands.specs.InLaw.{law_opener, law_turn}
 use Rattle.tdb_txn_owner.specs.Holders.{HolderState}
+use Rattle.tdb_txn_owner.proofs.Opened.{weaker_with}
 use Rattle.tdb_world.specs.contracts.all_openers.AllOpeners.{the_view}
 use Rattle.tdb_world.specs.Room.{FullAside}
 use Rattle.tdb_world.specs.Room.EndsFullRightly.{full_aside}
 use Rattle.tdb_world.specs.Stopped.{StoppedAside}
 use Rattle.tdb_world.specs.Stopped.StoppedTurn.{stopped_aside}
 use Rattle.tdb_world.specs.Stops.{IsSafe, TurnMayLeave}
+use Rattle.tdb_world.specs.Syncs.{PlansAside}
 use Rattle.tdb_world.specs.Whole.{form_at, Whole}
 use Rattle.tdb_world.specs.States.{IsStateOf}
 use Rattle.tdb_world.specs.Steps.{with_aside, HasCommand, TurnLeads}
@@ -60,9 +62,13 @@ returns-clause-safe g c =
 
 pub returns-clause-syncs : goal.returns-clause-syncs
 returns-clause-syncs g c =
-    IfOk-weaker c.step_aside.result _ _
-    (λ turn S. aside_syncs c.args.self.now c.args.who turn (g.D.Disk.syncs c.args.d.now) (g.D.Disk.syncs c.step_aside.new.d) c.in-Some.holder (aside g c) (sym (owner g c)) S)
-    c.step_aside.ensures.syncs
+    let h = g.D.Disk.history c.args.d.now in
+    let was = g.D.Disk.syncs c.args.d.now in
+    let now = g.D.Disk.syncs c.step_aside.new.d in
+    weaker_with c.step_aside.result _ _ _
+    (λ turn S plans. aside_syncs g.D.Disk.tells c.args.self.now h c.args.who turn was now c.in-Some.holder (aside g c) (sym (owner g c)) S
+    (λ told. subst (λ w. PlansAside w c.in-Some.holder h turn was now) (before g c) (plans told)))
+    c.step_aside.ensures.syncs c.step_aside.ensures.plans
 
 pub returns-clause-full : goal.returns-clause-full
 returns-clause-full g c =

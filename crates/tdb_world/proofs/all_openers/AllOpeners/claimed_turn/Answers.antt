@@ -21,6 +21,7 @@ use Rattle.tdb_openers.specs.declared.opener.Opener.{Opener}
 use Rattle.tdb_world.specs.Claims.{ClaimStands, IsSettled}
 use Rattle.tdb_world.specs.Room.{FullAside}
 use Rattle.tdb_world.specs.Steps.{TurnLeads}
+use Rattle.tdb_world.specs.Syncs.{PlansAside}
 use Rattle.tdb_world.specs.Steps.HasCommand.{by_aside}
 use Rattle.tdb_world.specs.Whole.{Whole, WorldFits}
 use Rattle.tdb_world.proofs.ClaimUsed.{number_now, stood_now, used_fits, used_leads, C}
@@ -28,6 +29,7 @@ use Rattle.tdb_world.proofs.Fullness.{used_full}
 use Rattle.tdb_world.proofs.Settled.{settled_world}
 use Rattle.tdb_world.proofs.Stopped.{used_stopped}
 use Rattle.tdb_world.proofs.Stopping.{still_leaves, used_safe, used_stops}
+use Rattle.tdb_world.proofs.Synced.{used_plans}
 use Rattle.tdb_world.proofs.all_openers.AllOpeners.claimed_turn.Given
 use Rattle.tdb_world.proofs.all_openers.AllOpeners.claimed_turn.Goals as goal
 
@@ -192,3 +194,13 @@ returns-clause-full g c = λ told before x S.
     subst (λ turn. FullAside (record (self g c) { openers = before; aside = Some holder }) holder old (law_turn turn)) (sym c.settle.ensures.turn)
     (used_full (self g c) holder (img g c) (size g c) before x S old (g.D.Disk.history c.keep_number.new.d) c.keep_number.ensures.history
     c.header.result.now c.options.result.now (header g c) (options g c) c.in_ok-moved.moved.turn (c.in_ok-moved.ensures.full told))
+
+pub returns-clause-plans : goal.returns-clause-plans
+returns-clause-plans g c = λ told before x S.
+    let old = g.D.Disk.history c.args.d.now in
+    let holder = c.args.holder in
+    let was = record (self g c) { openers = before; aside = Some holder } in
+    let now = g.D.Disk.syncs c.turn.new.d in
+    subst (λ turn. PlansAside was holder old turn (g.D.Disk.syncs c.args.d.now) now) (sym c.settle.ensures.turn)
+    (subst (λ n. PlansAside was holder old c.in_ok-moved.moved.turn n now) c.keep_number.ensures.syncs
+    (used_plans was holder old (g.D.Disk.history c.keep_number.new.d) c.keep_number.ensures.history c.in_ok-moved.moved.turn (g.D.Disk.syncs c.keep_number.new.d) now (c.in_ok-moved.ensures.plans told)))

@@ -7,6 +7,7 @@ use Rattle.tdb_commands.specs.InLaw.{law_opener, law_turn}
 use Rattle.tdb_law.specs.Commands.Turn.{Blocked}
 use Rattle.tdb_locks.specs.declared.kind.Kind.{Kind}
 use Rattle.tdb_txn_owner.specs.Holders.{HolderState, HolderTurned}
+use Rattle.tdb_txn_owner.specs.Syncs.{HolderPlans}
 use Rattle.tdb_txn_owner.specs.Wanting.{stage_wants}
 use Rattle.tdb_txn_owner.specs.declared.wanting.Wants.{Wants}
 use Rattle.tdb_openers.specs.Aside.{HoldsRecords}
@@ -18,6 +19,7 @@ use Rattle.tdb_world.specs.Steps.{with_aside, TurnLeads}
 use Rattle.tdb_world.specs.Room.{FullAside}
 use Rattle.tdb_world.specs.Stopped.{StoppedAside}
 use Rattle.tdb_world.specs.Stops.{IsSafe, TurnMayLeave}
+use Rattle.tdb_world.specs.Syncs.{PlansAside}
 use Rattle.tdb_world.specs.Whole.{form_at, options_at, Whole, WorldFits}
 use Rattle.tdb_world.proofs.Fitting.{fits_starved}
 use Rattle.tdb_world.proofs.Fullness.{blocked_full, starved_full}
@@ -174,3 +176,15 @@ returns-in-Taken-clause-stopped g c =
     (λ stopped told. subst (λ w. StoppedAside (with_aside w c.args.holder) c.args.holder (g.D.Disk.history c.args.d.now) (g.D.Disk.history c.claimed_turn.new.d)) c.self.view_is
     (stopped told c.self.inside.openers (F g c).aside.opener (stands g c)))
     c.claimed_turn.ensures.stopped
+
+pub returns-in-Taken-clause-plans : goal.returns-in-Taken-clause-plans
+returns-in-Taken-clause-plans g c =
+    IfOk-weaker c.claimed_turn.result _ _
+    (λ turn plans told. subst (λ w. PlansAside (with_aside w c.args.holder) c.args.holder (g.D.Disk.history c.args.d.now) turn (g.D.Disk.syncs c.args.d.now) (g.D.Disk.syncs c.claimed_turn.new.d)) c.self.view_is
+    (plans told c.self.inside.openers (F g c).aside.opener (stands g c)))
+    c.claimed_turn.ensures.plans
+
+pub returns-in-Starved-clause-plans : goal.returns-in-Starved-clause-plans
+returns-in-Starved-clause-plans g c told image past s A =
+    let n = g.D.Disk.syncs c.args.d.now in
+    subst (λ turn. HolderPlans c.args.holder.stage image turn n n) (sym c.starve.ensures.turn) tt

@@ -62,12 +62,12 @@ returns-clause-prepared g c =
 pub returns-then-is_starting-clause-syncs : goal.returns-then-is_starting-clause-syncs
 returns-then-is_starting-clause-syncs g c =
     IfOk-weaker c.start_turn.result _ _
-    (λ turn S. start_syncs c.args.self.now c.args.who turn (g.D.Disk.syncs c.args.d.now) (g.D.Disk.syncs c.start_turn.new.d) (c.is_aside.ensures.no c.if-is_aside.false) S)
+    (λ turn S. start_syncs g.D.Disk.tells c.args.self.now (g.D.Disk.history c.args.d.now) c.args.who turn (g.D.Disk.syncs c.args.d.now) (g.D.Disk.syncs c.start_turn.new.d) (c.is_aside.ensures.no c.if-is_aside.false) S)
     c.start_turn.ensures.syncs
 
 pub returns-clause-syncs : goal.returns-clause-syncs
 returns-clause-syncs g c =
-    if_any c.other_turn.result _ (λ turn. other_syncs c.args.self.now c.args.who turn (g.D.Disk.syncs c.args.d.now) (g.D.Disk.syncs c.other_turn.new.d) (c.is_aside.ensures.no c.if-is_aside.false)
+    if_any c.other_turn.result _ (λ turn. other_syncs g.D.Disk.tells c.args.self.now (g.D.Disk.history c.args.d.now) c.args.who turn (g.D.Disk.syncs c.args.d.now) (g.D.Disk.syncs c.other_turn.new.d) (c.is_aside.ensures.no c.if-is_aside.false)
     (sym c.is_starting.ensures ∙ c.if-is_starting.false))
 
 -- one that only looks isn't aside, and has no Start
