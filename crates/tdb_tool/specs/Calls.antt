@@ -20,7 +20,7 @@ pub record CallsFrom (w : Whole) (old now : History) (from to : ℕ) (sound : Ty
   pub size : ℕ
   pub calls : CallsTell count w old from lines last left size
   pub ends : sound → (left ≡ now) × (size ≡ to)
-  pub stopped : StoppedCall last left now
+  pub stopped : StoppedCall last left size now
 
 -- Each line of a report that tells of a turn stands for a call that took one of the command that is told, in a world
 -- that the calls before it left, and over a file of the length that the lines before it tell. It leads from each state

@@ -1,6 +1,5 @@
 -- Calls of which lines tell, one after the other.
-use Rattle.std.proofs.Common.{◌≡◌, ℕ, zero, suc, Bool, true, false, nat_lt, List, [], ◌∷◌, ◌++◌, Result, Ok, Err, refl, sym, ◌∙◌, ap, subst, append_assoc, append-nil}
-use Rattle.std.specs.Prelude.{if◌then◌else◌}
+use Rattle.std.proofs.Common.{◌≡◌, ℕ, zero, suc, List, [], ◌∷◌, ◌++◌, Result, Ok, Err, refl, sym, ◌∙◌, ap, subst, append_assoc, append-nil}
 use Rattle.tdb_disk.specs.History.{History}
 use Rattle.tdb_law.specs.Commands.{Command, Turn}
 use Rattle.tdb_law.specs.Lines.{Line as LawLine}
@@ -11,24 +10,16 @@ use Rattle.tdb_law.specs.World.{State}
 use Rattle.tdb_commands.specs.declared.line.Line.{Line}
 use Rattle.tdb_commands.specs.declared.line.Line.TheVariants as Lines
 use Rattle.tdb_commands.specs.InLaw.{law_line}
-use Rattle.tdb_openers.specs.Played.{growth, UnlessIo}
+use Rattle.tdb_openers.specs.Played.{UnlessIo}
 use Rattle.tdb_openers.specs.declared.fault.RunFault.{RunFault}
 use Rattle.tdb_openers.specs.declared.fault.RunFault.TheVariants.{Io, Memory}
 use Rattle.tdb_world.specs.Whole.{Whole}
-use Rattle.tdb_world.specs.Courses.Calls.{Calls, StaysFormed, TellNoCall, TellsNoCall}
+use Rattle.tdb_world.specs.Courses.Calls.{Calls, StaysFormed, TellsNoCall}
 use Rattle.tdb_world.specs.Courses.Stopped.{StoppedCall}
 use Rattle.tdb_world.specs.Courses.Stopped.StoppedCall.{stopped_still}
 use Rattle.tdb_world.specs.Courses.Led.{CallsTell, Lengths, Moment, ToldCalls}
 
--- the line of a growth tells no call
-growth_by : (z : Bool) (from to : ℕ) → TellNoCall (if z then Lines.Grew from to ∷ [] else [])
-growth_by true from to = (tt, tt)
-growth_by false from to = tt
-
-pub growth_quiet : (from to : ℕ) → TellNoCall (growth from to)
-growth_quiet from to = growth_by (nat_lt from to) from to
-
--- nor does an answer
+-- an answer tells no call, and no growth
 never_undone : (state : State) (play : Play) (bytes to : ℕ) → IsAnswer state play (LawLine.Undone bytes to) → ⊥
 never_undone state Play.Join bytes to A = A
 never_undone state Play.SetLog bytes to A = A
@@ -37,6 +28,15 @@ never_undone state (Play.Do who c) bytes to A = A
 never_undone state (Play.TakeTurn who) bytes to A = A
 never_undone state (Play.Go who) bytes to A = A
 never_undone state (Play.Die who) bytes to A = A
+
+never_grew : (state : State) (play : Play) (from to : ℕ) → IsAnswer state play (LawLine.Grew from to) → ⊥
+never_grew state Play.Join from to A = A
+never_grew state Play.SetLog from to A = A
+never_grew state (Play.Give who c) from to A = A
+never_grew state (Play.Do who c) from to A = A
+never_grew state (Play.TakeTurn who) from to A = A
+never_grew state (Play.Go who) from to A = A
+never_grew state (Play.Die who) from to A = A
 
 never_took : (state : State) (play : Play) (o : ℕ) (command : Command) (turn : Turn) → IsAnswer state play (LawLine.Took o command turn) → ⊥
 never_took state Play.Join o command turn A = A
@@ -47,26 +47,29 @@ never_took state (Play.TakeTurn who) o command turn A = A
 never_took state (Play.Go who) o command turn A = A
 never_took state (Play.Die who) o command turn A = A
 
-quiet_by : (line : Line) → ((o : ℕ) (command : Command) (turn : Turn) → law_line line ≡ LawLine.Took o command turn → ⊥) → ((bytes to : ℕ) → law_line line ≡ LawLine.Undone bytes to → ⊥) → TellsNoCall line
-quiet_by (Lines.Joined who) took undone = tt
-quiet_by (Lines.JoinBlocked owner) took undone = tt
-quiet_by Lines.JoinMany took undone = tt
-quiet_by Lines.JoinMemory took undone = tt
-quiet_by (Lines.Took who command turn) took undone = took _ _ _ refl
-quiet_by (Lines.Grew from to) took undone = tt
-quiet_by (Lines.Absent who) took undone = tt
-quiet_by (Lines.Idle who) took undone = tt
-quiet_by (Lines.Occupied who) took undone = tt
-quiet_by (Lines.LogsLeft count) took undone = tt
-quiet_by (Lines.Unfinished who) took undone = tt
-quiet_by (Lines.Died who) took undone = tt
-quiet_by (Lines.Undone bytes to) took undone = undone bytes to refl
+quiet_by : (line : Line) → ((o : ℕ) (command : Command) (turn : Turn) → law_line line ≡ LawLine.Took o command turn → ⊥) → ((bytes to : ℕ) → law_line line ≡ LawLine.Undone bytes to → ⊥)
+    → ((from to : ℕ) → law_line line ≡ LawLine.Grew from to → ⊥) → TellsNoCall line
+quiet_by (Lines.Joined who) took undone grew = tt
+quiet_by (Lines.JoinBlocked owner) took undone grew = tt
+quiet_by Lines.JoinMany took undone grew = tt
+quiet_by Lines.JoinMemory took undone grew = tt
+quiet_by (Lines.Took who command turn) took undone grew = took _ _ _ refl
+quiet_by (Lines.Grew from to) took undone grew = grew from to refl
+quiet_by (Lines.Absent who) took undone grew = tt
+quiet_by (Lines.Idle who) took undone grew = tt
+quiet_by (Lines.Occupied who) took undone grew = tt
+quiet_by (Lines.LogsLeft count) took undone grew = tt
+quiet_by (Lines.Unfinished who) took undone grew = tt
+quiet_by (Lines.Died who) took undone grew = tt
+quiet_by (Lines.Undone bytes to) took undone grew = undone bytes to refl
 
 pub answer_quiet : (state : State) (play : Play) (line : Line) → IsAnswer state play (law_line line) → TellsNoCall line
-answer_quiet state play line A = quiet_by line (λ o command turn e. never_took state play o command turn (subst (IsAnswer state play) e A)) (λ bytes to e. never_undone state play bytes to (subst (IsAnswer state play) e A))
+answer_quiet state play line A =
+    quiet_by line (λ o command turn e. never_took state play o command turn (subst (IsAnswer state play) e A)) (λ bytes to e. never_undone state play bytes to (subst (IsAnswer state play) e A))
+    (λ from to e. never_grew state play from to (subst (IsAnswer state play) e A))
 
 joined_quiet : (line : Line) (who : ℕ) → law_line line ∷ [] ≡ LawLine.Joined who ∷ [] → TellsNoCall line
-joined_quiet line who e = quiet_by line (λ o command turn is. cc) (λ bytes to is. cc)
+joined_quiet line who e = quiet_by line (λ o command turn is. cc) (λ bytes to is. cc) (λ from to is. cc)
 
 same_line : (a b : LawLine) → a ∷ [] ≡ b ∷ [] → a ≡ b
 same_line a b e = cc
@@ -102,12 +105,12 @@ pub told_none : {V : Type 0} (old new : Moment) (r : Result V RunFault) → new.
 told_none old new r world history size =
     record { count = 0; world = old.world; history = old.history; size = old.size; calls = (refl, refl, refl, refl); last = unless r _ (world, history, size); stopped = stopped_still history }
 
-pub told_failed : {V : Type 0} (old new : Moment) → StoppedCall old.world old.history new.history → ToldCalls {V = V} old new (Err Io) []
+pub told_failed : {V : Type 0} (old new : Moment) → StoppedCall old.world old.history old.size new.history → ToldCalls {V = V} old new (Err Io) []
 told_failed old new S = record { count = 0; world = old.world; history = old.history; size = old.size; calls = (refl, refl, refl, refl); last = tt; stopped = S }
 
 -- one call was made
-pub told_one : {V : Type 0} (old new : Moment) (r : Result V RunFault) (lines : List Line) (v : Whole) (g : History) (to : ℕ) → StaysFormed old.world v → Lengths old.size lines to → Calls old.world old.history old.size lines v g
-    → UnlessIo r ((new.world ≡ v) × (new.history ≡ g) × (new.size ≡ to)) → StoppedCall v g new.history → ToldCalls old new r lines
+pub told_one : {V : Type 0} (old new : Moment) (r : Result V RunFault) (lines : List Line) (v : Whole) (g : History) (to : ℕ) → StaysFormed old.world v → Lengths old.size lines to → Calls old.world old.history old.size lines v g to
+    → UnlessIo r ((new.world ≡ v) × (new.history ≡ g) × (new.size ≡ to)) → StoppedCall v g to new.history → ToldCalls old new r lines
 told_one old new r lines v g to F L C last S = record { count = 1; world = v; history = g; size = to; calls = (v, g, to, lines, [], sym (append-nil lines), F, L, C, (refl, refl, refl, refl)); last = last; stopped = S }
 
 -- the same, with another answer

@@ -25,7 +25,7 @@ use Rattle.tdb_openers.specs.Worlds.{state_in}
 use Rattle.tdb_world.specs.Whole.{Whole, WorldFits, form_at}
 use Rattle.tdb_world.specs.States.{IsStateOf}
 use Rattle.tdb_world.specs.States.IsStateOf.{of_whole, of_stale}
-use Rattle.tdb_world.specs.Steps.{HasCommand, HasThis, IsAmong, TurnLeads, UndoLeads}
+use Rattle.tdb_world.specs.Steps.{HasCommand, HasThis, IsAmong}
 use Rattle.tdb_world.specs.Steps.HasCommand.{by_aside, by_start, by_job}
 use Rattle.tdb_world.specs.Steps.IsAmong.{among_all, among_others}
 use Rattle.tdb_world.specs.Died.{IsReadAs}
@@ -34,12 +34,11 @@ use Rattle.tdb_world.proofs.Reopening.{state_reopens}
 use Rattle.tdb_world.specs.Courses.Led.{Moment, moment, IsStateAt, Led}
 use Rattle.tdb_world.specs.Courses.Stops.{ToldWhereTaken}
 use Rattle.tdb_world.specs.Courses.Turns.{IsToldOf, Never, TakesOrClears}
-use Rattle.tdb_world.specs.Room.{FullOfTurn}
-use Rattle.tdb_world.specs.Courses.Calls.{StaysFormed}
+use Rattle.tdb_world.specs.Courses.Calls.{StaysFormed, TurnMade, UndoMade}
 use Rattle.tdb_world.specs.Courses.Stopped.{StoppedCall}
-use Rattle.tdb_world.specs.Courses.Calls.Calls.{calls_turn, calls_undo}
+use Rattle.tdb_world.specs.Courses.Calls.Calls.{calls_turn, calls_undo, calls_unmeasured}
 use Rattle.tdb_world.specs.Courses.Stopped.StoppedCall.{stopped_still}
-use Rattle.tdb_world.proofs.Courses.Calling.{growth_quiet, told_failed, told_none, told_one}
+use Rattle.tdb_world.proofs.Courses.Calling.{told_failed, told_none, told_one}
 use Rattle.tdb_world.proofs.Courses.Leading.{growth_grows, led_join, led_fault}
 use Rattle.tdb_world.proofs.Courses.Courses.{clear_takes, clear_last}
 
@@ -100,7 +99,7 @@ nothing_led tells w h g size longer before now old new Io All Last same equal li
 
 -- where a call of the disk failed in an undo or in a turn
 pub failed_led : {V : Type 0} (tells : Bool) (w v : Whole) (h g : History) (size longer before now : ℕ) (old new : List Line) (All : State → V → List LawLine → State → Type 0) (Part Last : State → List LawLine → State → Type 0)
-    → before ≤ now → new ≡ old → (IsTrue tells → (state : State) → IsStateOf w h state → StoppedCall w h g) → (IsTrue tells → (state : State) → IsStateOf w h state → Rose before now) → ((state : State) → Last state [] state)
+    → before ≤ now → new ≡ old → (IsTrue tells → (state : State) → IsStateOf w h state → StoppedCall w h size g) → (IsTrue tells → (state : State) → IsStateOf w h state → Rose before now) → ((state : State) → Last state [] state)
     → Led {V = V} tells (moment w h size before old) (moment v g longer now new) (Err Io) All Part Last
 failed_led tells w v h g size longer before now old new All Part Last rises lines stopped rose last = record {
   header = tt;
@@ -118,9 +117,9 @@ failed_led tells w v h g size longer before now old new All Part Last rises line
 
 -- a gate that was undone
 pub undone_led : {U : Type 0} (answer : U) (tells : Bool) (w v : Whole) (h g : History) (size shorter before now bytes to : ℕ) (old new : List Line) → v ≡ record w { stale = false } → shorter ≤ size → to ≡ shorter → now ≡ before
-    → WorldFits v (seen g) shorter → (IsTrue tells → UndoLeads w v h g) → new ≡ old ++ Lines.Undone bytes to ∷ []
+    → WorldFits v (seen g) shorter → (IsTrue tells → (state : State) → IsStateOf w h state → UndoMade w h size bytes to v g) → new ≡ old ++ Lines.Undone bytes to ∷ []
     → Led tells (moment w h size before old) (moment v g shorter now new) (Ok answer) (λ state _. Clears (form_at w) state) Never Nothing
-undone_led answer tells w v h g size shorter before now bytes to old new world low length quiet W undoes lines = record {
+undone_led answer tells w v h g size shorter before now bytes to old new world low length quiet W made lines = record {
   header = ap (λ (z : Whole). z.openers.header) world;
   options = ap (λ (z : Whole). z.openers.options) world;
   rises = (let e = quiet in omega (arith, e));
@@ -129,10 +128,10 @@ undone_led answer tells w v h g size shorter before now bytes to old new world l
   grown = (let e = length in (omega (arith, low, e), sym length));
   fits = W;
   quiet = quiet;
-  told = λ told state is. (let J = undoes told state is in (J.0, J.1, clears_gate bytes to refl J.2));
+  told = λ told state is. (let J = (made told state is).leads state is in (J.0, J.1, clears_gate bytes to refl J.2));
   calls = λ told state is.
       told_one _ _ _ _ v g shorter (record { header = ap (λ (z : Whole). z.openers.header) world; options = ap (λ (z : Whole). z.openers.options) world })
-      (let e = length in (omega (arith, low, e), sym length)) (calls_undo bytes to refl (undoes told)) (refl, refl, refl) (stopped_still refl);
+      (let e = length in (omega (arith, low, e), sym length)) (calls_undo bytes to refl (made told state is)) (refl, refl, refl) (stopped_still refl);
   rose = λ told state is. tt;
 }
 
@@ -156,23 +155,22 @@ takes_one f old new who Turns.Step lines A = A
 takes_one f old new who (Turns.Blocked o b) lines A = (law_turn (Turns.Blocked o b), tt, A)
 takes_one f old new who (Turns.Done r) lines A = (law_turn (Turns.Done r), tt, A)
 
-module _ (tells : Bool) (w v : Whole) (h g : History) (from before who : ℕ) (command : Command) (turn : Turn) (old new : List Line) (turned : IsTrue tells → TurnLeads w v h g who (law_turn turn))
-    (full : IsTrue tells → FullOfTurn w h who (law_turn turn)) (header : v.openers.header ≡ w.openers.header) (options : v.openers.options ≡ w.openers.options)
-    (has : HasThis w who (law_command command)) (sized : IsTrue tells → length (seen h) ≡ from) where
+module _ (tells : Bool) (w v : Whole) (h g : History) (from before who : ℕ) (command : Command) (turn : Turn) (old new : List Line) (made : IsTrue tells → TurnMade w h from who command turn v g)
+    (header : v.openers.header ≡ w.openers.header) (options : v.openers.options ≡ w.openers.options) where
   takes : (grown : List Line) → Grows (law_lines grown) → IsTrue tells → (state : State) → IsStateOf w h state → (after : State) × IsStateOf v g after
       × (IsToldOf state (law_opener who) (law_command command) → TakesOne (form_at w) state (law_opener who) (is_step turn) (law_lines (Lines.Took who command turn ∷ grown)) after)
   takes grown G told state is =
-      let J = turned told state is in
+      let J = (made told).leads state is in
       (J.0, J.2, λ mine. takes_one (form_at w) state J.0 (law_opener who) turn _ (advance (form_at w) state J.0 who J.1 command turn grown (mine J.1 J.3.mine) G J.3))
 
   formed : StaysFormed w v
   formed = record { header = header; options = options }
 
-  pub took_led : (to now : ℕ) (Part Last : State → List LawLine → State → Type 0) → from ≤ to → now ≡ before → WorldFits v (seen g) to
+  pub took_led : (to now : ℕ) (Part Last : State → List LawLine → State → Type 0) → from ≤ to → now ≡ before → WorldFits v (seen g) to → (IsTrue tells → length (seen g) ≡ to)
       → new ≡ (old ++ Lines.Took who command turn ∷ []) ++ growth from to
       → Led tells (moment w h from before old) (moment v g to now new) (Ok (is_step turn))
       (λ state more lines z. IsToldOf state (law_opener who) (law_command command) → TakesOne (form_at w) state (law_opener who) more lines z) Part Last
-  took_led to now Part Last longer quiet W lines = record {
+  took_led to now Part Last longer quiet W after lines = record {
     header = header;
     options = options;
     rises = (let e = quiet in omega (arith, e));
@@ -182,7 +180,7 @@ module _ (tells : Bool) (w v : Whole) (h g : History) (from before who : ℕ) (c
     fits = W;
     quiet = quiet;
     told = takes (growth from to) (growth_grows from to longer).0;
-    calls = λ told state is. told_one _ _ _ _ v g to formed (growth_grows from to longer).1 (calls_turn who command turn (growth from to) refl (growth_quiet from to) has (sized told) (turned told) (full told)) (refl, refl, refl) (stopped_still refl);
+    calls = λ told state is. told_one _ _ _ _ v g to formed (growth_grows from to longer).1 (calls_turn who command turn refl (made told) (after told)) (refl, refl, refl) (stopped_still refl);
     rose = λ told state is. tt;
   }
 
@@ -201,7 +199,7 @@ module _ (tells : Bool) (w v : Whole) (h g : History) (from before who : ℕ) (c
     fits = tt;
     quiet = tt;
     told = λ told state is. (let T = takes [] (grows_not refl) told state is in (T.0, λ mine. inr (is_step turn, T.2 mine)));
-    calls = λ told state is. told_one _ _ _ _ v g from formed refl (calls_turn who command turn [] refl tt has (sized told) (turned told) (full told)) tt (stopped_still same);
+    calls = λ told state is. told_one _ _ _ _ v g from formed refl (calls_unmeasured who command turn refl (made told)) tt (stopped_still same);
     rose = rose;
   }
 

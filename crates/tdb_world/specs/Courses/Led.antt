@@ -53,7 +53,7 @@ abbrev pub CallsTell : ℕ → Whole → History → ℕ → List Line → Whole
 CallsTell zero w h size lines v g to = (lines ≡ []) × (v ≡ w) × (g ≡ h) × (to ≡ size)
 CallsTell (suc n) w h size lines v g to =
     (u : Whole) × (k : History) × (next : ℕ) × (front : List Line) × (rest : List Line) × (lines ≡ front ++ rest) × StaysFormed w u × Lengths size front next
-    × Calls w h size front u k × CallsTell n u k next rest v g to
+    × Calls w h size front u k next × CallsTell n u k next rest v g to
 
 -- Lines tell the calls that led from one moment to another; where the disk failed, those in front of the failed one,
 -- which then left the file as it is.
@@ -64,7 +64,7 @@ pub record ToldCalls {V : Type 0} (old new : Moment) (answer : Result V RunFault
   pub size : ℕ
   pub calls : CallsTell count old.world old.history old.size lines world history size
   pub last : UnlessIo answer ((new.world ≡ world) × (new.history ≡ history) × (new.size ≡ size))
-  pub stopped : StoppedCall world history new.history
+  pub stopped : StoppedCall world history size new.history
 
 -- What leads from one moment to another, with this answer, over a disk that tells its bytes or doesn't: lines were
 -- added, which tell from each state of the world what was done, each call, and each growth of the file. Unless the disk

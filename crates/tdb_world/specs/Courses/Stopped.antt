@@ -1,6 +1,6 @@
 -- What the call leaves of the file at which plays break off.
-use Rattle.std.specs.Prelude.{ℕ, ◌≡◌}
-use Rattle.tdb_disk.specs.History.{History}
+use Rattle.std.specs.Prelude.{ℕ, ◌≡◌, length}
+use Rattle.tdb_disk.specs.History.{History, seen}
 use Rattle.tdb_disk.specs.Stop.{LeavesOnly}
 use Rattle.tdb_law.specs.Commands.{Turn}
 use Rattle.tdb_law.specs.World.{State}
@@ -16,11 +16,11 @@ use Rattle.tdb_world.specs.Whole.{Whole, form_at}
 abbrev pub StoppedUndo : Whole → History → History → Type 0
 StoppedUndo w h g = (state : State) → IsStateOf w h state → IsSafe (form_at w) h → LeavesOnly h g (OpensToState (form_at w) state)
 
--- What the call leaves that failed, in a world and over its file: nothing has changed, as where the length wasn't had;
--- a turn failed, or the undo of an open gate; or a turn was taken that no line tells, since the length of the file
--- wasn't had behind it.
-pub data StoppedCall (w : Whole) (h g : History) : Type 0 where
-  stopped_still : g ≡ h → StoppedCall w h g
-  stopped_turn : (who : ℕ) → StoppedTurn w h g who → StoppedCall w h g
-  stopped_undo : StoppedUndo w h g → StoppedCall w h g
-  stopped_untold : (who : ℕ) (turn : Turn) (v : Whole) → TurnLeads w v h g who turn → FullOfTurn w h who turn → StoppedCall w h g
+-- What the call leaves that failed, in a world and over its file, which has this length by the lines in front: nothing
+-- has changed, as where the length couldn't be had; a turn failed, or the undo of an open gate; or a turn was taken that
+-- no line tells, since the length of the file couldn't be had behind it.
+pub data StoppedCall (w : Whole) (h : History) (size : ℕ) (g : History) : Type 0 where
+  stopped_still : g ≡ h → StoppedCall w h size g
+  stopped_turn : (who : ℕ) → length (seen h) ≡ size → StoppedTurn w h g who → StoppedCall w h size g
+  stopped_undo : length (seen h) ≡ size → StoppedUndo w h g → StoppedCall w h size g
+  stopped_untold : (who : ℕ) (turn : Turn) (v : Whole) → length (seen h) ≡ size → TurnLeads w v h g who turn → FullOfTurn w h who turn → StoppedCall w h size g

@@ -21,7 +21,7 @@ returns-in_err-turn-clause-led g c =
     rw (q.1, q.2)
     (failed_led g.D.Disk.tells c.args.world.now c.turn.new.self (g.D.Disk.history c.args.d.now) (g.D.Disk.history c.turn.new.d) (g.D.Disk.size c.args.d.now) (g.D.Disk.size c.turn.new.d)
     (g.D.Disk.faults c.args.d.now) (g.D.Disk.faults c.turn.new.d) c.args.report.now.lines c.args.report.now.lines _ _ _ c.turn.ensures.rises refl
-    (λ told state is. stopped_turn c.args.who (c.in_err-turn.ensures.stopped told state is)) (λ told state is. (c.in_err-turn.ensures.cause told state is).failed) (λ state mine. inl (refl, refl)))
+    (λ told state is. stopped_turn c.args.who (g.met.D.Disk.told_size c.args.d.now told) (c.in_err-turn.ensures.stopped told state is)) (λ told state is. (c.in_err-turn.ensures.cause told state is).failed) (λ state mine. inl (refl, refl)))
 
 pub returns-in_err-to-clause-led : goal.returns-in_err-to-clause-led
 returns-in_err-to-clause-led g c =
@@ -30,8 +30,8 @@ returns-in_err-to-clause-led g c =
     let more = c.length_of.ensures.cause.never_falls in
     rw (q.1, q.2)
     (took_io g.D.Disk.tells c.args.world.now c.turn.new.self (g.D.Disk.history c.args.d.now) (g.D.Disk.history c.turn.new.d) (g.D.Disk.size c.args.d.now) (g.D.Disk.faults c.args.d.now) c.args.who c.args.command c.in_ok-turn.turn
-    c.args.report.now.lines c.put_line.new.report.lines c.in_ok-turn.ensures.turned c.in_ok-turn.ensures.full c.in_ok-turn.ensures.header c.in_ok-turn.ensures.options
-    c.requires.has (g.met.D.Disk.told_size c.args.d.now) (g.D.Disk.faults c.length_of.new.d) (g.D.Disk.size c.length_of.new.d) (g.D.Disk.history c.length_of.new.d) c.length_of.ensures.history _ (omega (arith, rises, more)) c.put_line.ensures.lines
+    c.args.report.now.lines c.put_line.new.report.lines (λ told. (record { has = c.requires.has; before = g.met.D.Disk.told_size c.args.d.now told; leads = c.in_ok-turn.ensures.turned told; full = c.in_ok-turn.ensures.full told }))
+    c.in_ok-turn.ensures.header c.in_ok-turn.ensures.options (g.D.Disk.faults c.length_of.new.d) (g.D.Disk.size c.length_of.new.d) (g.D.Disk.history c.length_of.new.d) c.length_of.ensures.history _ (omega (arith, rises, more)) c.put_line.ensures.lines
     (λ told state is. subst (λ n. Rose n (g.D.Disk.faults c.length_of.new.d)) c.in_ok-turn.ensures.done c.in_err-to.ensures.cause.failed))
 
 pub returns-clause-led : goal.returns-clause-led
@@ -51,9 +51,14 @@ returns-clause-led g c =
     let told_growth = c.tell_growth.ensures ∙ (ap (λ n. lines ++ growth n c.in_ok-to.to) c.requires.length ∙ (ap (λ n. lines ++ growth from n) (c.in_ok-to.ensures.length ∙ sym c.length_of.ensures.size) ∙ ap (λ ls. ls ++ growth from to) c.put_line.ensures.lines)) in
     rw c.was_step-more.ensures
     (took_led g.D.Disk.tells w v h z from before c.args.who c.args.command turn c.args.report.now.lines c.tell_growth.new.report.lines
-    (λ told. subst (λ u. TurnLeads w v h u c.args.who (law_turn turn)) (sym c.length_of.ensures.history) (c.in_ok-turn.ensures.turned told)) c.in_ok-turn.ensures.full c.in_ok-turn.ensures.header c.in_ok-turn.ensures.options
-    c.requires.has (g.met.D.Disk.told_size c.args.d.now) to now _ _ (omega (arith, longer, kept)) (c.in_ok-to.ensures.cause.done ∙ c.in_ok-turn.ensures.done)
-    (subst (λ u. WorldFits v (seen u) to) (sym c.length_of.ensures.history) (subst (WorldFits v (seen (g.D.Disk.history c.turn.new.d))) (sym c.length_of.ensures.size) c.in_ok-turn.ensures.fits)) told_growth)
+    (λ told. (record {
+      has = c.requires.has;
+      before = g.met.D.Disk.told_size c.args.d.now told;
+      leads = subst (λ u. TurnLeads w v h u c.args.who (law_turn turn)) (sym c.length_of.ensures.history) (c.in_ok-turn.ensures.turned told);
+      full = c.in_ok-turn.ensures.full told;
+    }))
+    c.in_ok-turn.ensures.header c.in_ok-turn.ensures.options to now _ _ (omega (arith, longer, kept)) (c.in_ok-to.ensures.cause.done ∙ c.in_ok-turn.ensures.done)
+    (subst (λ u. WorldFits v (seen u) to) (sym c.length_of.ensures.history) (subst (WorldFits v (seen (g.D.Disk.history c.turn.new.d))) (sym c.length_of.ensures.size) c.in_ok-turn.ensures.fits)) (g.met.D.Disk.told_size c.length_of.new.d) told_growth)
 
 -- after a step the opener has its command still
 step_is : (turn : Turn) → is_step turn ≡ true → turn ≡ Turns.Step
@@ -87,7 +92,8 @@ returns-in_err-to-clause-told g c =
     rw (q.1)
     (λ tells state is safe never.
     took_told g.D.Disk.tells c.args.world.now c.turn.new.self (g.D.Disk.history c.args.d.now) (g.D.Disk.history c.turn.new.d) (g.D.Disk.size c.args.d.now) (g.D.Disk.faults c.args.d.now) c.args.who c.args.command c.in_ok-turn.turn
-    c.args.report.now.lines c.put_line.new.report.lines c.in_ok-turn.ensures.turned c.in_ok-turn.ensures.full c.in_ok-turn.ensures.header c.in_ok-turn.ensures.options c.requires.has (g.met.D.Disk.told_size c.args.d.now)
+    c.args.report.now.lines c.put_line.new.report.lines (λ told. (record { has = c.requires.has; before = g.met.D.Disk.told_size c.args.d.now told; leads = c.in_ok-turn.ensures.turned told; full = c.in_ok-turn.ensures.full told }))
+    c.in_ok-turn.ensures.header c.in_ok-turn.ensures.options
     (g.D.Disk.history c.length_of.new.d) c.length_of.ensures.history c.put_line.ensures.lines
     tells state is (c.in_ok-turn.ensures.safe tells state is safe never))
 

@@ -40,7 +40,7 @@ returns-in_err-turn-clause-led g c command front has =
     (λ state lines new. IsToldOf state (law_opener c.args.who) (law_command command) → TakesLast (form_at w) state (law_opener c.args.who) lines new))
     (same_moment w (g.D.Disk.history c.args.d.now) h (g.D.Disk.size c.args.d.now) size (g.D.Disk.faults c.args.d.now) before front front c.length_of.ensures.history c.length_of.ensures.size c.in_ok-from.ensures.cause.done refl)
     (failed_led g.D.Disk.tells w c.turn.new.self h (g.D.Disk.history c.turn.new.d) size (g.D.Disk.size c.turn.new.d) before now front (front ++ []) _ _ _ c.turn.ensures.rises (append-nil front)
-    (λ told state is. stopped_turn c.args.who (c.in_err-turn.ensures.stopped told state is))
+    (λ told state is. stopped_turn c.args.who (g.met.D.Disk.told_size c.length_of.new.d told) (c.in_err-turn.ensures.stopped told state is))
     (λ told state is. (c.in_err-turn.ensures.cause told state is).failed) (λ state mine. inl (refl, refl))))
 
 pub returns-in_err-to-clause-led : goal.returns-in_err-to-clause-led
@@ -59,7 +59,7 @@ returns-in_err-to-clause-led g c command front has =
     (λ state lines new. IsToldOf state (law_opener c.args.who) (law_command command) → TakesLast (form_at w) state (law_opener c.args.who) lines new))
     (same_moment w (g.D.Disk.history c.args.d.now) h (g.D.Disk.size c.args.d.now) size (g.D.Disk.faults c.args.d.now) before front front c.length_of.ensures.history c.length_of.ensures.size c.in_ok-from.ensures.cause.done refl)
     (failed_led g.D.Disk.tells w c.turn.new.self h (g.D.Disk.history c.length_of-2.new.d) size (g.D.Disk.size c.length_of-2.new.d) before now front (front ++ []) _ _ _ (omega (arith, rises, more)) (append-nil front)
-    (λ told state is. stopped_untold c.args.who (law_turn c.in_ok-turn.turn) c.turn.new.self
+    (λ told state is. stopped_untold c.args.who (law_turn c.in_ok-turn.turn) c.turn.new.self (g.met.D.Disk.told_size c.length_of.new.d told)
     (subst (λ u. TurnLeads w c.turn.new.self h u c.args.who (law_turn c.in_ok-turn.turn)) (sym c.length_of-2.ensures.history) (c.in_ok-turn.ensures.turned told)) (c.in_ok-turn.ensures.full told))
     (λ told state is. subst (λ n. Rose n now) c.in_ok-turn.ensures.done c.in_err-to.ensures.cause.failed) (λ state mine. inl (refl, refl))))
 
@@ -90,9 +90,15 @@ returns-clause-led g c command front has =
     (λ state lines new. IsToldOf state (law_opener c.args.who) (law_command command) → TakesLast (form_at w) state (law_opener c.args.who) lines new))
     (same_moment w (g.D.Disk.history c.args.d.now) h (g.D.Disk.size c.args.d.now) from (g.D.Disk.faults c.args.d.now) before front front c.length_of.ensures.history c.length_of.ensures.size c.in_ok-from.ensures.cause.done refl)
     (led_whole g.D.Disk.tells old new _ Never Never _ _ _ (is_step turn) measured
-    (took_led g.D.Disk.tells w v h z from before c.args.who command turn front all (λ told. subst (λ u. TurnLeads w v h u c.args.who (law_turn turn)) (sym c.length_of-2.ensures.history) (c.in_ok-turn.ensures.turned told))
-    c.in_ok-turn.ensures.full c.in_ok-turn.ensures.header c.in_ok-turn.ensures.options has (g.met.D.Disk.told_size c.length_of.new.d) to now _ _ (omega (arith, longer, kept)) (c.in_ok-to.ensures.cause.done ∙ c.in_ok-turn.ensures.done)
-    (subst (λ u. WorldFits v (seen u) to) (sym c.length_of-2.ensures.history) (subst (WorldFits v (seen (g.D.Disk.history c.turn.new.d))) (sym kept) c.in_ok-turn.ensures.fits)) lines) (λ state lines z is T. T))
+    (took_led g.D.Disk.tells w v h z from before c.args.who command turn front all
+    (λ told. (record {
+      has = has;
+      before = g.met.D.Disk.told_size c.length_of.new.d told;
+      leads = subst (λ u. TurnLeads w v h u c.args.who (law_turn turn)) (sym c.length_of-2.ensures.history) (c.in_ok-turn.ensures.turned told);
+      full = c.in_ok-turn.ensures.full told;
+    }))
+    c.in_ok-turn.ensures.header c.in_ok-turn.ensures.options to now _ _ (omega (arith, longer, kept)) (c.in_ok-to.ensures.cause.done ∙ c.in_ok-turn.ensures.done)
+    (subst (λ u. WorldFits v (seen u) to) (sym c.length_of-2.ensures.history) (subst (WorldFits v (seen (g.D.Disk.history c.turn.new.d))) (sym kept) c.in_ok-turn.ensures.fits)) (g.met.D.Disk.told_size c.length_of-2.new.d) lines) (λ state lines z is T. T))
 
 pub returns-in_err-from-clause-stops : goal.returns-in_err-from-clause-stops
 returns-in_err-from-clause-stops g c = no_turn_stops g.D.Disk.tells c.args.world.now (law_opener c.args.who) (g.D.Disk.history c.args.d.now) (g.D.Disk.history c.length_of.new.d) c.length_of.ensures.history

@@ -23,14 +23,21 @@ returns-in_err-undone-clause-led g c =
     rw (q.1, q.2)
     (failed_led g.D.Disk.tells c.args.world.now c.undo_stale.new.self (g.D.Disk.history c.args.d.now) (g.D.Disk.history c.undo_stale.new.d) (g.D.Disk.size c.args.d.now) (g.D.Disk.size c.undo_stale.new.d)
     (g.D.Disk.faults c.args.d.now) (g.D.Disk.faults c.undo_stale.new.d) [] [] _ _ _ c.undo_stale.ensures.cause.never_falls refl
-    (λ told state is. stopped_undo (c.undo_stale.ensures.stops told)) (λ told state is. c.in_err-undone.ensures.cause.failed) (λ state. (refl, refl)))
+    (λ told state is. stopped_undo (g.met.D.Disk.told_size c.args.d.now told) (c.undo_stale.ensures.stops told)) (λ told state is. c.in_err-undone.ensures.cause.failed) (λ state. (refl, refl)))
 
 pub returns-clause-led : goal.returns-clause-led
 returns-clause-led g c =
     let undone = c.in_ok-undone.undone in
     undone_led (Some undone) g.D.Disk.tells c.args.world.now c.undo_stale.new.self (g.D.Disk.history c.args.d.now) (g.D.Disk.history c.undo_stale.new.d) (g.D.Disk.size c.args.d.now) (g.D.Disk.size c.undo_stale.new.d)
     (g.D.Disk.faults c.args.d.now) (g.D.Disk.faults c.undo_stale.new.d) undone.bytes undone.to [] (undo_lines (Ok (Some undone))) c.in_ok-undone.ensures.world
-    c.in_ok-undone.ensures.shorter c.in_ok-undone.ensures.length c.in_ok-undone.ensures.cause.done c.in_ok-undone.ensures.fits c.in_ok-undone.ensures.undoes refl
+    c.in_ok-undone.ensures.shorter c.in_ok-undone.ensures.length c.in_ok-undone.ensures.cause.done c.in_ok-undone.ensures.fits
+    (λ told state is. (record {
+      before = g.met.D.Disk.told_size c.args.d.now told;
+      after = g.met.D.Disk.told_size c.undo_stale.new.d told ∙ sym c.in_ok-undone.ensures.length;
+      bytes_back = c.in_ok-undone.ensures.bytes told state is;
+      leads = c.in_ok-undone.ensures.undoes told;
+    }))
+    refl
 
 pub returns-clause-busy : goal.returns-clause-busy
 returns-clause-busy g c who busy = subst (λ w. HasCommand w who) (sym c.in_ok-undone.ensures.world) (cleared_busy c.args.world.now who busy)
