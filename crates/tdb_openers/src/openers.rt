@@ -18,7 +18,7 @@ ghost use Rattle.tdb_commands.specs.InLaw.{law_opener, law_command, law_turn, op
 ghost use Rattle.tdb_commands.specs.Short.{IsShortCommand};
 ghost use Rattle.tdb_openers.specs.declared.job.Task.{Task};
 ghost use Rattle.tdb_openers.specs.declared.opener.Opener.{Opener};
-ghost use Rattle.tdb_openers.specs.Calm.{IsCalm, IsSparing};
+ghost use Rattle.tdb_openers.specs.Calm.{IsCalm, IsSparing, OnlyMoves};
 ghost use Rattle.tdb_openers.specs.Aside.{IsBare, HoldsRecords, AreFree, AreBarred};
 ghost use Rattle.tdb_openers.specs.Given.{IsBeginning, IsShortLocking, IsWellHeld};
 ghost use Rattle.tdb_openers.specs.declared.job.Job.TheVariants as Jobs;
@@ -275,8 +275,8 @@ impl Openers {
     /// other turn may be taken in the world: the disk failed, or a check found a fault in the file, which no turn
     /// leaves.
     ///
-    /// An opener that holds no record for writing before the turn only looks at the file, and so does one that isn't in
-    /// the middle of a change. The reply is `Full` exactly where the file has no room, up to the limit, for what the
+    /// An opener that holds no record for writing before the turn only looks at the file, and so do one that isn't in the
+    /// middle of a change, and one whose command is on its cursor and doesn't purge a record. The reply is `Full` exactly where the file has no room, up to the limit, for what the
     /// command stores: at the turn in which it takes a record, with the length of the file and what it needs.
     ///
     /// Cost: that of the command's turn, and a search in the lock table; nothing is passed over that doesn't belong to
@@ -296,6 +296,7 @@ impl Openers {
             → JobStopped (form_in self.old.header) (S.image s.old) (S.image s.new) x.walk.cursor t.job t.steps (other_hands self.old.openers (law_opener who))) }
         ensures calm { IsCalm S.Space s.old s.new self.old.table (law_opener who) }
         ensures spared { (x : Opener) (t : Task) → IsBusy self.old who x t → IsSparing S.Space s.old s.new (form_in self.old.header) (own_of self.old.options x) (law_of_task t) }
+        ensures moves { (x : Opener) (t : Task) → IsBusy self.old who x t → OnlyMoves x t → Looked S.Space s.old s.new }
         ensures busy { IfOk result (λ turn. turn ≡ Turn.Step → (x : Opener) × (t : Task) × IsBusy self.new who x t) }
         ensures joined { length self.new.openers ≡ length self.old.openers }
         ensures others { (o : ℕ) → o ≢ law_opener who → slice_get self.new.openers o ≡ slice_get self.old.openers o }

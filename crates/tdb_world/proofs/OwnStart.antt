@@ -116,7 +116,7 @@ module _ (w : Whole) (o : ℕ) (any : List ℕ) (size : ℕ) (F : WorldFits w an
       let none = bare_sum (sum (values_of x.held.chains)) S.bare.no_chains in
       ap held_count (λ i. record own { all = ap all_of S.none i; cursor = S.bare.no_cursor i }) ∙ omega (arith, summed, none)
 
-  granted : refusal f (OnGroup Start) own ≡ None
+  pub granted : refusal f (OnGroup Start) own ≡ None
   granted = start_granted f own refl S.writes counts_none
 
   module _ (img : List ℕ) (past : Past) where

@@ -7,7 +7,7 @@ use Rattle.tdb_locks.specs.declared.kind.Kind.TheVariants.{Write}
 use Rattle.tdb_law.specs.Held.{all_held, covers}
 use Rattle.tdb_law.specs.Rows.{lock_all}
 use Rattle.tdb_law.specs.Commands.{Command}
-use Rattle.tdb_law.specs.Openers.{Task}
+use Rattle.tdb_law.specs.Openers.{Task, nowhere}
 use Rattle.tdb_law.specs.World.{State}
 use Rattle.tdb_law.proofs.Tests.{never_true}
 use Rattle.tdb_law.proofs.Walking.{put_here, put_else}
@@ -152,6 +152,10 @@ pub task_else : (q : State) (past : Past) (side : Option Side) (o : ℕ) → IsE
 task_else q past None o ne = refl
 task_else q past (Some s) o ne = put_else q.task s.here s.task o ne
 
+pub spot_else : (q : State) (past : Past) (side : Option Side) (o : ℕ) → IsElse side o → (whole q past side).spot o ≡ q.spot o
+spot_else q past None o ne = refl
+spot_else q past (Some s) o ne = put_else q.spot s.here nowhere o ne
+
 module _ (w : Whole) (who : ℕ) (named : 1 ≤ who) (among : IsAmong w who) (history : History) (state : State) where
   pub own_in : IsStateOf w history state → state.own (law_opener who) ≡ own_at w.openers.options (slice_get w.openers.openers (law_opener who))
   own_in (of_whole S) =
@@ -165,6 +169,12 @@ module _ (w : Whole) (who : ℕ) (named : 1 ≤ who) (among : IsAmong w who) (hi
       ∙ task_else (state_in w.openers S.image) S.past S.side (law_opener who) (side_else w who named among w.aside refl history S.image S.past S.side S.is_side)
   task_in none (of_stale S) =
       ap (λ (z : State). z.task (law_opener who)) S.is ∙ task_not (is_starting w.starts) (record (alone (state_in w.openers S.image) S.past) { stale = true }) (law_opener who) none
+
+  pub spot_in : IsStateOf w history state → state.spot (law_opener who) ≡ spot_at (slice_get w.openers.openers (law_opener who))
+  spot_in (of_whole S) =
+      ap (λ (z : State). z.spot (law_opener who)) S.is
+      ∙ spot_else (state_in w.openers S.image) S.past S.side (law_opener who) (side_else w who named among w.aside refl history S.image S.past S.side S.is_side)
+  spot_in (of_stale S) = ap (λ (z : State). z.spot (law_opener who)) S.is
 
 -- and that has the new Start
 pub start_in : (w : Whole) (o : ℕ) (history : History) (state : State) → is_starting w.starts o ≡ true → IsStateOf w history state → state.task o ≡ Some new_start

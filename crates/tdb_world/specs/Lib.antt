@@ -10,6 +10,7 @@ pub mod Stops
 pub mod Calm
 pub mod Prepared
 pub mod Syncs
+pub mod Looks
 pub mod Courses
 pub mod Loaded
 pub mod Histories

@@ -10,7 +10,7 @@ ghost use Rattle.tdb_space.specs.Form.{form_in};
 ghost use Rattle.tdb_steps.specs.Turns.{number_of};
 ghost use Rattle.tdb_law.specs.OneAside.Sides.{Past, Side};
 ghost use Rattle.tdb_openers.specs.ShutOut.{HeadsShow, HoldsAll, IsMove, IsTurnBeside, ShutsOut};
-ghost use Rattle.tdb_openers.specs.Calm.{IsMidway, WritesNoRecord};
+ghost use Rattle.tdb_openers.specs.Calm.{IsMidway, OnlyMoves, WritesNoRecord};
 ghost use Rattle.tdb_openers.specs.Laws.{other_hands};
 ghost use Rattle.tdb_openers.specs.Openers.{own_of};
 ghost use Rattle.tdb_openers.specs.Stopped.{JobStopped};
@@ -18,6 +18,7 @@ ghost use Rattle.tdb_openers.specs.Worlds.{law_of_task, state_in, BytesStand, Is
 ghost use Rattle.tdb_openers.specs.declared.job.Task.{Task};
 ghost use Rattle.tdb_openers.specs.declared.opener.Opener.{Opener};
 ghost use Rattle.tdb_world.specs.Shut.{IsOpen, IsShutBy};
+ghost use Rattle.tdb_world.specs.Looks.{MayWrite};
 ghost use Rattle.tdb_world.specs.Room.{FullOfTurn};
 ghost use Rattle.tdb_world.specs.Stopped.{StopsRightly};
 ghost use Rattle.tdb_steps.specs.Room.{FullAtTake};
@@ -78,6 +79,7 @@ impl AllOpeners {
             → D.history d.new ≡ D.history d.old }
         ensures no_sync { (x : Opener) (t : Task) → IsBusy self.old.openers who x t → (IsMidway (form_in self.old.openers.header) (own_of self.old.openers.options x) (law_of_task t) → ⊥)
             → D.syncs d.new ≡ D.syncs d.old }
+        ensures moves { (x : Opener) (t : Task) → IsBusy self.old.openers who x t → OnlyMoves x t → D.history d.new ≡ D.history d.old }
         ensures busy { IfOk result (λ turn. turn ≡ Turn.Step → (x : Opener) × (t : Task) × IsBusy self.new.openers who x t) }
         ensures joined { length self.new.openers.openers ≡ length self.old.openers.openers }
         ensures others { (o : ℕ) → o ≢ law_opener who → slice_get self.new.openers.openers o ≡ slice_get self.old.openers.openers o }
@@ -206,6 +208,7 @@ impl AllOpeners {
         ensures safe { OnOk result (IsTrue D.tells → (state : State) → let f = form_at self.old in IsStateOf self.old (D.history d.old) state → IsSafe f (D.history d.old) → (IsChanging f state (law_opener who) → ⊥)
             → IsSafe f (D.history d.new)) }
         ensures no_sync { (state : State) → IsStateOf self.old (D.history d.old) state → (IsChanging (form_at self.old) state (law_opener who) → ⊥) → D.syncs d.new ≡ D.syncs d.old }
+        ensures still { (state : State) → IsStateOf self.old (D.history d.old) state → (MayWrite (form_at self.old) state (law_opener who) → ⊥) → D.history d.new ≡ D.history d.old }
         ensures busy { IfOk result (λ turn. turn ≡ Turn.Step → HasCommand self.new who) }
         ensures header { OnOk result (self.new.openers.header ≡ self.old.openers.header) }
         ensures options { OnOk result (self.new.openers.options ≡ self.old.openers.options) }

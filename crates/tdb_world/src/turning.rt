@@ -13,6 +13,7 @@ ghost use Rattle.tdb_world.specs.Stopped.{StopsRightly};
 ghost use Rattle.tdb_world.specs.Stops.{IsChanging, IsSafe, TurnMayLeave};
 ghost use Rattle.tdb_world.specs.Prepared.{GoesAsPrepared};
 ghost use Rattle.tdb_world.specs.Syncs.{OnlyLooks, SyncsByStage};
+ghost use Rattle.tdb_world.specs.Looks.{StaysUnwritten};
 
 use crate::all_openers::AllOpeners;
 use tdb_disk::Disk;
@@ -26,7 +27,8 @@ impl AllOpeners {
     /// has no room, up to the limit, for what the command stores. The first turn of a Start is blocked by the one aside
     /// where that holds the lock byte of transactions, and never wants memory there. After `Io` outside a transaction
     /// at most the chain of the command's key, the free list, their heads, the command's record and the sequence number
-    /// have changed.
+    /// have changed. Outside a transaction a turn writes nothing unless it is in the middle of a change: not where its
+    /// command changes no map, and not in the first turn of one that does.
     ///
     /// Cost: that of the command's turn, and a search in the lock table; nothing is passed over that doesn't belong to
     /// it. A turn of a Start, a Commit or a Prepare, or one that ends a transaction, syncs the disk as often as its
@@ -50,6 +52,7 @@ impl AllOpeners {
             → IsSafe f (D.history d.new)) }
         ensures syncs { IfOk result (λ turn. SyncsByStage D.tells self.old (D.history d.old) who turn (D.syncs d.old) (D.syncs d.new)) }
         ensures no_sync { (state : State) → IsStateOf self.old (D.history d.old) state → OnlyLooks (form_at self.old) state (law_opener who) → D.syncs d.new ≡ D.syncs d.old }
+        ensures still { StaysUnwritten self.old who (D.history d.old) (D.history d.new) }
         ensures busy { IfOk result (λ turn. turn ≡ Turn.Step → HasCommand self.new who) }
         ensures header { OnOk result (self.new.openers.header ≡ self.old.openers.header) }
         ensures options { OnOk result (self.new.openers.options ≡ self.old.openers.options) }

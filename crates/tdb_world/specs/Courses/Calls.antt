@@ -13,6 +13,7 @@ use Rattle.tdb_commands.specs.declared.line.Line.TheVariants.{Grew, Took, Undone
 use Rattle.tdb_openers.specs.Played.{growth}
 use Rattle.tdb_world.specs.Whole.{Whole, form_at}
 use Rattle.tdb_world.specs.States.{IsStateOf}
+use Rattle.tdb_world.specs.Looks.{StaysUnwritten}
 use Rattle.tdb_world.specs.Room.{FullOfTurn}
 use Rattle.tdb_world.specs.Steps.{HasThis, TurnLeads, UndoLeads}
 
@@ -36,12 +37,14 @@ pub record StaysFormed (w v : Whole) : Type 0 where
   pub header : v.openers.header ≡ w.openers.header
   pub options : v.openers.options ≡ w.openers.options
 
--- A turn of the command that is told, over a file of this length. It ends with Full exactly where there is no room.
+-- A turn of the command that is told, over a file of this length. It ends with Full exactly where there is no room, and
+-- leaves the file as it is where it writes nothing.
 pub record TurnMade (w : Whole) (h : History) (size who : ℕ) (command : Command) (turn : Turn) (v : Whole) (g : History) : Type 0 where
   pub has : HasThis w who (law_command command)
   pub before : length (seen h) ≡ size
   pub leads : TurnLeads w v h g who (law_turn turn)
   pub full : FullOfTurn w h who (law_turn turn)
+  pub still : StaysUnwritten w who h g
 
 -- The undo of an open gate: so many bytes were put back, and the file, which had the first length, has the other now.
 pub record UndoMade (w : Whole) (h : History) (size bytes to : ℕ) (v : Whole) (g : History) : Type 0 where

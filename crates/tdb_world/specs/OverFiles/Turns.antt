@@ -20,6 +20,7 @@ use Rattle.tdb_world.specs.Steps.{HasCommand, HasNoCommand, StartWaits, TurnLead
 use Rattle.tdb_world.specs.Stops.{IsChanging, IsSafe, OpensToState, TurnMayLeave}
 use Rattle.tdb_world.specs.Prepared.{GoesAsPrepared}
 use Rattle.tdb_world.specs.Room.{FullOfTurn}
+use Rattle.tdb_world.specs.Looks.{StaysUnwritten}
 use Rattle.tdb_world.specs.Syncs.{OnlyLooks, SyncsByStage}
 use Rattle.tdb_world.specs.OverFile.{OverFile, HasState, KeepsForm}
 
@@ -59,6 +60,10 @@ StopsInTurn old new who = (state : State) → IsSafeFor old who state → Leaves
 -- an opener that only looks at the file makes no sync
 abbrev pub LooksUnsynced : OverFile → OverFile → ℕ → Type 0
 LooksUnsynced old new who = (state : State) → HasState old state → OnlyLooks (form_at old.world) state (law_opener who) → new.syncs ≡ old.syncs
+
+-- a turn that writes nothing leaves the file as it is
+abbrev pub LeavesFile : OverFile → OverFile → ℕ → Type 0
+LeavesFile old new who = StaysUnwritten old.world who old.history new.history
 
 -- The count of faults in a call: it never falls, and is as before where the call is answered Ok; where it isn't, it
 -- rose, over a file that tells its bytes.

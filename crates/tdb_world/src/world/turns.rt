@@ -3,7 +3,7 @@ ghost use Rattle.std.specs.Prelude.{◌≡◌, ◌≤◌, IsTrue, IfOk, OnErr, i
 ghost use Rattle.tdb_disk.specs.Count.{HasCause};
 ghost use Rattle.tdb_world.specs.Steps.{HasCommand};
 ghost use Rattle.tdb_world.specs.Stopped.{StopsRightly};
-ghost use Rattle.tdb_world.specs.OverFiles.Turns.{CountsFaults, LooksUnsynced, StopsInTurn, StopsInUndo, TookTurn, WasUndone};
+ghost use Rattle.tdb_world.specs.OverFiles.Turns.{CountsFaults, LeavesFile, LooksUnsynced, StopsInTurn, StopsInUndo, TookTurn, WasUndone};
 
 use crate::Undone;
 use crate::world::World;
@@ -28,6 +28,10 @@ impl<D: Disk> World<D> {
     /// opener that has a transaction, each stop in the turn and behind it leaves what its stage says: a file that opens
     /// to the map before, or from the turn on that shuts the gate of a Commit to that of the transaction.
     ///
+    /// Outside a transaction no turn of a command that changes no map writes to the file, nor the first one of a
+    /// command that does, nor one that is refused; of those on a cursor only one that purges a dead record writes, at
+    /// its third turn.
+    ///
     /// Cost: that of the command's turn, and a search in the lock table; nothing is passed over that doesn't belong to
     /// it. A turn of a Start, a Commit or a Prepare, or one that ends a transaction, syncs the disk as often as its
     /// stage says. That makes four times for a Commit that keeps the undo area, seven with a first one, nine with one
@@ -41,6 +45,7 @@ impl<D: Disk> World<D> {
         ensures stopped { OnErr result (IsTrue D.tells → StopsRightly self.old.world self.old.history self.new.history who) }
         ensures stops { IsTrue D.tells → StopsInTurn self.old self.new who }
         ensures no_sync { LooksUnsynced self.old self.new who }
+        ensures still { LeavesFile self.old self.new who }
         ensures faults { CountsFaults D.tells self.old self.new result }
         ensures spent { self.new.spent ≡ is_err result }
     {

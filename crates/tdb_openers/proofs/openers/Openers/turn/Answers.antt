@@ -1,5 +1,5 @@
 -- A turn of the opener with the number is a turn of the world.
-use Rattle.std.proofs.Common.{◌≡◌, ◌<◌, ◌+◌, ◌-◌, ℕ, set, slice_get, slice_set, IsTrue, sym, ap, subst, ◌∙◌, arith}
+use Rattle.std.proofs.Common.{◌≡◌, ◌<◌, ◌+◌, ◌-◌, ℕ, None, Some, set, slice_get, slice_set, IsTrue, sym, ap, subst, ◌∙◌, arith}
 use Rattle.tdb_space.specs.Form.{form_in}
 use Rattle.tdb_openers.specs.Laws.{MayStand, other_hands}
 use Rattle.tdb_law.specs.Turned.{Turned}
@@ -10,6 +10,7 @@ use Rattle.tdb_openers.specs.States.{state_of}
 use Rattle.tdb_openers.specs.Worlds.{IsBusy, Stands, BytesStand, state_in, law_of_task}
 use Rattle.tdb_openers.specs.Turning.{resting, OpenerHolds, ImageBefore}
 use Rattle.tdb_openers.specs.Calm.{WritesNoRecord, IsMidway}
+use Rattle.tdb_walk.specs.Cursors.{dead_of}
 use Rattle.tdb_openers.specs.Openers.{rest_of, own_of, command_in}
 use Rattle.tdb_walk.specs.Cursors.{StepStops}
 use Rattle.tdb_walk.specs.Spots.{spot_number}
@@ -338,6 +339,20 @@ returns-in-Some-walking-clause-spared g c x t B spares =
     (subst (λ w. Stands w (g.S.Space.image c.args.s.now) (g.S.Space.size c.args.s.now)) (sym e) c.requires.stands) (walk_command c.in-Some-walking.walking)
     (sym c.walking.ensures ∙ ap (option_map walk_command) c.in-Some-walking.is)
     (subst (λ w. IsMidway (form_in w.header) (own_of w.options x) (law_of_task t) → ⊥) (sym e) spares))
+
+-- And so does one whose cursor doesn't purge a record.
+pub returns-clause-moves : goal.returns-clause-moves
+returns-clause-moves g c x t B moves =
+    let N = (subst (λ w. IsBusy w c.args.who x t) (sym c.self.view_is) B).number in
+    let same = numbered c.self.inside.list.items c.args.who N.place x c.in-Some.opener.now N.counted N.there c.in-Some.ensures.item.1 in
+    let off = sym c.walking.ensures ∙ ap (option_map walk_command) c.in_default-walking.is in
+    absurd (let both : Some moves.walk ≡ None = sym moves.on ∙ (sym (ap (λ (z : Opener). walk_of z.task) same ∙ ap walk_of B.busy) ∙ off) in cc both)
+
+pub returns-in-Some-walking-clause-moves : goal.returns-in-Some-walking-clause-moves
+returns-in-Some-walking-clause-moves g c x t B moves =
+    let N = (subst (λ w. IsBusy w c.args.who x t) (sym c.self.view_is) B).number in
+    let same = numbered c.self.inside.list.items c.args.who N.place x c.in-Some.opener.now N.counted N.there c.in-Some.ensures.item.1 in
+    c.walk_turn.ensures.idle (subst (λ (z : Opener). dead_of z.walk.cursor.place z.walk.cursor.stage ≡ None) (sym same) moves.spares)
 
 -- The other openers stay.
 pub returns-clause-others : goal.returns-clause-others

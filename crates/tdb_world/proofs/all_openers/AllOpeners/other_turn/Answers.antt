@@ -1,5 +1,5 @@
 -- The turn is one on the bytes of the file, or that of an opener that is shut out.
-use Rattle.std.proofs.Common.{◌≡◌, sym, subst, arith}
+use Rattle.std.proofs.Common.{◌≡◌, sym, subst, inl, inr, arith}
 use Rattle.std.specs.Prelude.{Result, IfOk, OnOk, IsTrue}
 use Rattle.std.proofs.Common.{Ok, Err}
 use Rattle.tdb_disk.specs.History.{History, seen}
@@ -19,7 +19,7 @@ use Rattle.tdb_world.specs.Stops.{IsChanging, IsSafe}
 use Rattle.tdb_world.specs.Whole.{form_at, WorldFits}
 use Rattle.tdb_txn_turns.proofs.Room.{never}
 use Rattle.tdb_world.proofs.OtherTurns.{OnlyOne, with_openers, open_fits, open_leads, put_openers, same_fits, shut_leads, shut_not_full, still_among}
-use Rattle.tdb_world.proofs.Spared.{not_midway}
+use Rattle.tdb_world.proofs.Spared.{not_midway, writes_not}
 use Rattle.tdb_world.proofs.Outside.{file_stands}
 use Rattle.std.proofs.lemmas.Result.{IfOk-weaker, on_err_weaker}
 use Rattle.tdb_world.proofs.Stopped.{job_front}
@@ -187,6 +187,17 @@ returns-in-None-clause-safe g c =
     on_one c.turn_in_file.result _ _
     (λ done told state S safe never. subst (IsSafe (form_at c.args.self.now)) (sym (same g (goal.at.returns-in-None-clause-safe g c).After-turn_in_file state S never)) safe)
     c.turn_in_file.ensures.done
+
+pub returns-in-Some-clause-still : goal.returns-in-Some-clause-still
+returns-in-Some-clause-still g c state S never = c.turn_beside.ensures.history
+
+pub returns-in-None-clause-still : goal.returns-in-None-clause-still
+returns-in-None-clause-still g c state S never =
+    let B = c.requires.busy in
+    elim (writes_not c.args.self.now _ c.args.who B.0 B.1 _ (g.D.Disk.history c.args.d.now) state c.requires.named c.requires.fits.openers B.2 c.requires.among c.requires.begun S never) [
+      | inl moves ↦ c.turn_in_file.ensures.moves B.0 B.1 B.2 moves
+      | inr spares ↦ c.turn_in_file.ensures.spared B.0 B.1 B.2 spares
+    ]
 
 pub returns-in-None-clause-no_sync : goal.returns-in-None-clause-no_sync
 returns-in-None-clause-no_sync g c state S never =

@@ -4,13 +4,14 @@ use Rattle.std.proofs.lemmas.Result.{IfOk-weaker}
 use Rattle.tdb_commands.specs.InLaw.{law_turn}
 use Rattle.tdb_openers.proofs.ExplicitLocks.Aside.{on_one}
 use Rattle.tdb_world.proofs.PreparedTurns.{prepared_leads}
-use Rattle.tdb_world.proofs.Looking.{looks_among, looks_unstarted}
+use Rattle.tdb_world.proofs.Looking.{looks_among, looks_unstarted, writes_among, writes_unstarted}
 use Rattle.tdb_world.proofs.Synced.{other_syncs, start_syncs}
-use Rattle.std.proofs.Common.{◌≡◌, ℕ, false, Ok, Err, None, Some, subst, sym, ◌∙◌, ap}
+use Rattle.std.proofs.Common.{◌≡◌, ℕ, Ok, Err, Some, subst, sym, ◌∙◌, ap}
 use Rattle.std.proofs.lemmas.Bool.{false≢true}
 use Rattle.std.specs.Prelude.{Result, IfOk}
 use Rattle.tdb_commands.specs.InLaw.{law_opener}
 use Rattle.tdb_world.specs.Syncs.{OnlyLooks}
+use Rattle.tdb_world.specs.Looks.{WritesNothing}
 use Rattle.tdb_txn_owner.specs.Holders.{HolderState}
 use Rattle.tdb_world.specs.Steps.{IsAmong}
 use Rattle.tdb_world.specs.Steps.IsAmong.{among_all, among_others}
@@ -82,6 +83,19 @@ returns-then-is_starting-clause-no_sync g c state S L =
 
 pub returns-clause-no_sync : goal.returns-clause-no_sync
 returns-clause-no_sync g c state S L = c.other_turn.ensures.no_sync state S L.calm
+
+-- nor is one that writes nothing, and it has no Start that is granted
+pub returns-then-is_aside-clause-still : goal.returns-then-is_aside-clause-still
+returns-then-is_aside-clause-still g c state S L =
+    let h = c.is_aside.ensures.yes c.if-is_aside.true in
+    absurd (writes_among c.args.self.now (g.D.Disk.history c.args.d.now) h.0 state h.1 S (subst (λ who. WritesNothing (form_at c.args.self.now) state (law_opener who)) h.2 L))
+
+pub returns-then-is_starting-clause-still : goal.returns-then-is_starting-clause-still
+returns-then-is_starting-clause-still g c state S L =
+    absurd (writes_unstarted c.args.self.now (g.D.Disk.history c.args.d.now) c.args.who _ _ c.requires.named c.requires.fits (c.is_aside.ensures.no c.if-is_aside.false) (sym c.is_starting.ensures ∙ c.if-is_starting.true) state S L)
+
+pub returns-clause-still : goal.returns-clause-still
+returns-clause-still g c state S L = c.other_turn.ensures.still state S L.calm
 
 -- the one aside isn't among the others
 not_among : (w : Whole) (who : ℕ) (h : HolderState) → w.aside ≡ Some h → who ≡ h.owner → IsAmong w who → ⊥

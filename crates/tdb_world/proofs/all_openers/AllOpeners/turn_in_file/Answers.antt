@@ -2,6 +2,7 @@
 use Rattle.std.proofs.Common.{◌≡◌, ℕ, List, sym, ◌∙◌, ap, subst}
 use Rattle.std.specs.Prelude.{Result, IfOk, IsTrue, OnErr}
 use Rattle.tdb_disk.specs.History.{seen}
+use Rattle.tdb_space.specs.DiskState.{DiskState}
 use Rattle.tdb_space.specs.Form.{form_in}
 use Rattle.tdb_locks.specs.declared.turn.Turn.{Turn}
 use Rattle.tdb_law.specs.Turned.{Turned}
@@ -53,3 +54,11 @@ returns-clause-stopped g c =
     subst (λ z. Stopped c.turn.result (IsTrue g.D.Disk.tells) z (seen (g.D.Disk.history c.args.d.now)) (seen (g.D.Disk.history c.d-1.given.0)) c.args.who) is
     (subst (λ y. Stopped c.turn.result (IsTrue g.D.Disk.tells) c.self.inside.openers y (seen (g.D.Disk.history c.d-1.given.0)) c.args.who) a
     (subst (λ y. Stopped c.turn.result (IsTrue g.D.Disk.tells) c.self.inside.openers (seen (g.D.Disk.history c.new-view.result.disk.now)) y c.args.who) b c.turn.ensures.stopped))
+
+pub returns-clause-moves : goal.returns-clause-moves
+returns-clause-moves g c x t B moves =
+    let is = ap (λ (z : Whole). z.openers) c.self.view_is in
+    let under = c.turn.ensures.wrote.under in
+    let kept : c.turn.new.s.disk.ghost_name ≡ c.new-view.result.disk.ghost_name = cc in
+    let looked = c.turn.ensures.moves x t (subst (λ z. IsBusy z c.args.who x t) (sym is) B) moves in
+    ap g.D.Disk.history (c.d-1.given.1 (sym c.new-view.ensures.same_reference ∙ sym kept)) ∙ (ap (λ (z : DiskState). z.history) looked.disk ∙ ap g.D.Disk.history c.new-view.ensures.disk)

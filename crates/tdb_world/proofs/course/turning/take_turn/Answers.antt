@@ -7,6 +7,7 @@ use Rattle.tdb_locks.specs.declared.turn.Turn.{Turn}
 use Rattle.tdb_locks.specs.declared.turn.Turn.TheVariants as Turns
 use Rattle.tdb_commands.specs.InLaw.{law_opener, law_turn}
 use Rattle.tdb_openers.specs.Played.{growth, is_step}
+use Rattle.tdb_world.specs.Looks.{StaysUnwritten}
 use Rattle.tdb_world.specs.Steps.{TurnLeads}
 use Rattle.tdb_world.specs.Stops.{IsSafe}
 use Rattle.tdb_world.specs.Whole.{form_at, WorldFits}
@@ -21,7 +22,7 @@ returns-in_err-turn-clause-led g c =
     rw (q.1, q.2)
     (failed_led g.D.Disk.tells c.args.world.now c.turn.new.self (g.D.Disk.history c.args.d.now) (g.D.Disk.history c.turn.new.d) (g.D.Disk.size c.args.d.now) (g.D.Disk.size c.turn.new.d)
     (g.D.Disk.faults c.args.d.now) (g.D.Disk.faults c.turn.new.d) c.args.report.now.lines c.args.report.now.lines _ _ _ c.turn.ensures.rises refl
-    (λ told state is. stopped_turn c.args.who (g.met.D.Disk.told_size c.args.d.now told) (c.in_err-turn.ensures.stopped told state is)) (λ told state is. (c.in_err-turn.ensures.cause told state is).failed) (λ state mine. inl (refl, refl)))
+    (λ told state is. stopped_turn c.args.who (g.met.D.Disk.told_size c.args.d.now told) (c.in_err-turn.ensures.stopped told state is) c.turn.ensures.still) (λ told state is. (c.in_err-turn.ensures.cause told state is).failed) (λ state mine. inl (refl, refl)))
 
 pub returns-in_err-to-clause-led : goal.returns-in_err-to-clause-led
 returns-in_err-to-clause-led g c =
@@ -30,7 +31,7 @@ returns-in_err-to-clause-led g c =
     let more = c.length_of.ensures.cause.never_falls in
     rw (q.1, q.2)
     (took_io g.D.Disk.tells c.args.world.now c.turn.new.self (g.D.Disk.history c.args.d.now) (g.D.Disk.history c.turn.new.d) (g.D.Disk.size c.args.d.now) (g.D.Disk.faults c.args.d.now) c.args.who c.args.command c.in_ok-turn.turn
-    c.args.report.now.lines c.put_line.new.report.lines (λ told. (record { has = c.requires.has; before = g.met.D.Disk.told_size c.args.d.now told; leads = c.in_ok-turn.ensures.turned told; full = c.in_ok-turn.ensures.full told }))
+    c.args.report.now.lines c.put_line.new.report.lines (λ told. (record { has = c.requires.has; before = g.met.D.Disk.told_size c.args.d.now told; leads = c.in_ok-turn.ensures.turned told; full = c.in_ok-turn.ensures.full told; still = c.turn.ensures.still }))
     c.in_ok-turn.ensures.header c.in_ok-turn.ensures.options (g.D.Disk.faults c.length_of.new.d) (g.D.Disk.size c.length_of.new.d) (g.D.Disk.history c.length_of.new.d) c.length_of.ensures.history _ (omega (arith, rises, more)) c.put_line.ensures.lines
     (λ told state is. subst (λ n. Rose n (g.D.Disk.faults c.length_of.new.d)) c.in_ok-turn.ensures.done c.in_err-to.ensures.cause.failed))
 
@@ -56,6 +57,7 @@ returns-clause-led g c =
       before = g.met.D.Disk.told_size c.args.d.now told;
       leads = subst (λ u. TurnLeads w v h u c.args.who (law_turn turn)) (sym c.length_of.ensures.history) (c.in_ok-turn.ensures.turned told);
       full = c.in_ok-turn.ensures.full told;
+      still = subst (StaysUnwritten w c.args.who h) (sym c.length_of.ensures.history) c.turn.ensures.still;
     }))
     c.in_ok-turn.ensures.header c.in_ok-turn.ensures.options to now _ _ (omega (arith, longer, kept)) (c.in_ok-to.ensures.cause.done ∙ c.in_ok-turn.ensures.done)
     (subst (λ u. WorldFits v (seen u) to) (sym c.length_of.ensures.history) (subst (WorldFits v (seen (g.D.Disk.history c.turn.new.d))) (sym c.length_of.ensures.size) c.in_ok-turn.ensures.fits)) (g.met.D.Disk.told_size c.length_of.new.d) told_growth)
@@ -92,7 +94,7 @@ returns-in_err-to-clause-told g c =
     rw (q.1)
     (λ tells state is safe never.
     took_told g.D.Disk.tells c.args.world.now c.turn.new.self (g.D.Disk.history c.args.d.now) (g.D.Disk.history c.turn.new.d) (g.D.Disk.size c.args.d.now) (g.D.Disk.faults c.args.d.now) c.args.who c.args.command c.in_ok-turn.turn
-    c.args.report.now.lines c.put_line.new.report.lines (λ told. (record { has = c.requires.has; before = g.met.D.Disk.told_size c.args.d.now told; leads = c.in_ok-turn.ensures.turned told; full = c.in_ok-turn.ensures.full told }))
+    c.args.report.now.lines c.put_line.new.report.lines (λ told. (record { has = c.requires.has; before = g.met.D.Disk.told_size c.args.d.now told; leads = c.in_ok-turn.ensures.turned told; full = c.in_ok-turn.ensures.full told; still = c.turn.ensures.still }))
     c.in_ok-turn.ensures.header c.in_ok-turn.ensures.options
     (g.D.Disk.history c.length_of.new.d) c.length_of.ensures.history c.put_line.ensures.lines
     tells state is (c.in_ok-turn.ensures.safe tells state is safe never))

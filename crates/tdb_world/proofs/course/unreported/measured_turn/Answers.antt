@@ -7,6 +7,7 @@ use Rattle.tdb_commands.specs.InLaw.{law_command, law_opener, law_turn}
 use Rattle.tdb_commands.specs.declared.line.Line.TheVariants as Lines
 use Rattle.tdb_openers.specs.Played.{growth, is_step, TakesLast, TakesOne}
 use Rattle.tdb_openers.specs.declared.fault.RunFault.TheVariants.{Io}
+use Rattle.tdb_world.specs.Looks.{StaysUnwritten}
 use Rattle.tdb_world.specs.Steps.{TurnLeads}
 use Rattle.tdb_world.specs.Whole.{form_at, WorldFits}
 use Rattle.tdb_world.specs.Courses.Stopped.StoppedCall.{stopped_still, stopped_turn, stopped_untold}
@@ -40,7 +41,7 @@ returns-in_err-turn-clause-led g c command front has =
     (λ state lines new. IsToldOf state (law_opener c.args.who) (law_command command) → TakesLast (form_at w) state (law_opener c.args.who) lines new))
     (same_moment w (g.D.Disk.history c.args.d.now) h (g.D.Disk.size c.args.d.now) size (g.D.Disk.faults c.args.d.now) before front front c.length_of.ensures.history c.length_of.ensures.size c.in_ok-from.ensures.cause.done refl)
     (failed_led g.D.Disk.tells w c.turn.new.self h (g.D.Disk.history c.turn.new.d) size (g.D.Disk.size c.turn.new.d) before now front (front ++ []) _ _ _ c.turn.ensures.rises (append-nil front)
-    (λ told state is. stopped_turn c.args.who (g.met.D.Disk.told_size c.length_of.new.d told) (c.in_err-turn.ensures.stopped told state is))
+    (λ told state is. stopped_turn c.args.who (g.met.D.Disk.told_size c.length_of.new.d told) (c.in_err-turn.ensures.stopped told state is) c.turn.ensures.still)
     (λ told state is. (c.in_err-turn.ensures.cause told state is).failed) (λ state mine. inl (refl, refl))))
 
 pub returns-in_err-to-clause-led : goal.returns-in_err-to-clause-led
@@ -60,7 +61,8 @@ returns-in_err-to-clause-led g c command front has =
     (same_moment w (g.D.Disk.history c.args.d.now) h (g.D.Disk.size c.args.d.now) size (g.D.Disk.faults c.args.d.now) before front front c.length_of.ensures.history c.length_of.ensures.size c.in_ok-from.ensures.cause.done refl)
     (failed_led g.D.Disk.tells w c.turn.new.self h (g.D.Disk.history c.length_of-2.new.d) size (g.D.Disk.size c.length_of-2.new.d) before now front (front ++ []) _ _ _ (omega (arith, rises, more)) (append-nil front)
     (λ told state is. stopped_untold c.args.who (law_turn c.in_ok-turn.turn) c.turn.new.self (g.met.D.Disk.told_size c.length_of.new.d told)
-    (subst (λ u. TurnLeads w c.turn.new.self h u c.args.who (law_turn c.in_ok-turn.turn)) (sym c.length_of-2.ensures.history) (c.in_ok-turn.ensures.turned told)) (c.in_ok-turn.ensures.full told))
+    (subst (λ u. TurnLeads w c.turn.new.self h u c.args.who (law_turn c.in_ok-turn.turn)) (sym c.length_of-2.ensures.history) (c.in_ok-turn.ensures.turned told)) (c.in_ok-turn.ensures.full told)
+    (subst (StaysUnwritten w c.args.who h) (sym c.length_of-2.ensures.history) c.turn.ensures.still))
     (λ told state is. subst (λ n. Rose n now) c.in_ok-turn.ensures.done c.in_err-to.ensures.cause.failed) (λ state mine. inl (refl, refl))))
 
 pub returns-clause-led : goal.returns-clause-led
@@ -96,6 +98,7 @@ returns-clause-led g c command front has =
       before = g.met.D.Disk.told_size c.length_of.new.d told;
       leads = subst (λ u. TurnLeads w v h u c.args.who (law_turn turn)) (sym c.length_of-2.ensures.history) (c.in_ok-turn.ensures.turned told);
       full = c.in_ok-turn.ensures.full told;
+      still = subst (StaysUnwritten w c.args.who h) (sym c.length_of-2.ensures.history) c.turn.ensures.still;
     }))
     c.in_ok-turn.ensures.header c.in_ok-turn.ensures.options to now _ _ (omega (arith, longer, kept)) (c.in_ok-to.ensures.cause.done ∙ c.in_ok-turn.ensures.done)
     (subst (λ u. WorldFits v (seen u) to) (sym c.length_of-2.ensures.history) (subst (WorldFits v (seen (g.D.Disk.history c.turn.new.d))) (sym kept) c.in_ok-turn.ensures.fits)) (g.met.D.Disk.told_size c.length_of-2.new.d) lines) (λ state lines z is T. T))

@@ -23,7 +23,7 @@ returns-in_err-undone-clause-led g c =
     rw (q.1, q.2)
     (failed_led g.D.Disk.tells c.args.world.now c.undo_stale.new.self (g.D.Disk.history c.args.d.now) (g.D.Disk.history c.undo_stale.new.d) (g.D.Disk.size c.args.d.now) (g.D.Disk.size c.undo_stale.new.d)
     (g.D.Disk.faults c.args.d.now) (g.D.Disk.faults c.undo_stale.new.d) [] [] _ _ _ c.undo_stale.ensures.cause.never_falls refl
-    (λ told state is. stopped_undo (g.met.D.Disk.told_size c.args.d.now told) (c.undo_stale.ensures.stops told)) (λ told state is. c.in_err-undone.ensures.cause.failed) (λ state. (refl, refl)))
+    (λ told state is. stopped_undo (g.met.D.Disk.told_size c.args.d.now told) (sym c.is_stale.ensures ∙ c.if-not-is_stale.false) (c.undo_stale.ensures.stops told)) (λ told state is. c.in_err-undone.ensures.cause.failed) (λ state. (refl, refl)))
 
 pub returns-clause-led : goal.returns-clause-led
 returns-clause-led g c =

@@ -26,5 +26,8 @@ returns-clause-stops g c = rw (← c.self.view_is) (λ told state S. c.turn-turn
 pub returns-clause-no_sync : goal.returns-clause-no_sync
 returns-clause-no_sync g c = rw (← c.self.view_is) c.turn-turned.ensures.no_sync
 
+pub returns-clause-still : goal.returns-clause-still
+returns-clause-still g c = rw (← c.self.view_is) c.turn-turned.ensures.still
+
 pub returns-clause-faults : goal.returns-clause-faults
 returns-clause-faults g c = let e = c.turn-turned.ensures in rw (← c.self.view_is) (counts_faults _ _ _ _ e.cause e.done e.rises)
