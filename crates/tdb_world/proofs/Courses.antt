@@ -10,6 +10,7 @@ pub mod Coming
 pub mod Answered
 pub mod StoppedPlays
 pub mod OneTurn
+pub mod Reading
 pub mod StoppedTurns
 pub mod Going
 pub mod Changes

@@ -31,6 +31,7 @@ pub mod NumberHeld
 pub mod AskingTurns
 pub mod OtherTurns
 pub mod Spared
+pub mod Reading
 pub mod Outside
 pub mod Fullness
 pub mod Stopped

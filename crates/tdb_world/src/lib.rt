@@ -19,7 +19,8 @@ mod world;
 
 pub use crate::all_openers::JoinRefusal;
 pub use crate::course::laws::{
-    ended_files_open, prepared_commits_end, report_is_lawful, steps_tell_changes,
+    ended_files_open, prepared_commits_end, read_only_files_stay, report_is_lawful,
+    steps_tell_changes,
 };
 pub use crate::creating::CreateRefusal;
 pub use crate::laws::{

@@ -1,5 +1,5 @@
 -- The laws of the report of plays.
-use Rattle.std.specs.Prelude.{ℕ, List, [], ◌++◌}
+use Rattle.std.specs.Prelude.{ℕ, ◌≡◌, List, [], ◌++◌, true}
 use Rattle.tdb_disk.specs.History.{History, seen}
 use Rattle.tdb_space.specs.Form.{Form}
 use Rattle.tdb_space.specs.Opening.{Opens}
@@ -10,8 +10,11 @@ use Rattle.tdb_law.specs.Plays.{Play, Course}
 use Rattle.tdb_law.specs.World.{State}
 use Rattle.tdb_commands.specs.InLaw.{law_lines}
 use Rattle.tdb_commands.specs.declared.line.Line.{Line}
-use Rattle.tdb_world.specs.Whole.{Whole, WorldFits}
+use Rattle.tdb_world.specs.Whole.{options_at, Whole, WorldFits}
 use Rattle.tdb_world.specs.States.{IsStateOf}
+use Rattle.tdb_world.specs.Loaded.{IsJustLoaded}
+use Rattle.tdb_world.specs.Courses.Led.{CallsTell}
+use Rattle.tdb_world.specs.Courses.Stopped.{StoppedCall}
 use Rattle.tdb_world.specs.Courses.Unfinished.{IsEnd, EndsWith}
 
 -- The report of plays that lead on from a state just loaded, with the lines of all that isn't done behind it, is lawful
@@ -27,3 +30,9 @@ EndsAlike = (w : Whole) (img : List ℕ) (size : ℕ) (h : History) (state : Sta
 -- the file of a world in which no opener has a command that isn't done can be opened
 abbrev pub EndedFileOpens : Type 0
 EndedFileOpens = (w : Whole) (h : History) (state : State) → IsStateOf w h state → EndsWith state [] → Opens (seen h)
+
+-- In a world just loaded over a file that is read-only, no call that lines tell changes the file, and neither does the
+-- one that failed behind them: its history is that of the beginning.
+abbrev pub ReadOnlyFilesStay : Type 0
+ReadOnlyFilesStay = (n : ℕ) (w v : Whole) (h g now : History) (size to : ℕ) (lines : List Line) (state : State) → IsJustLoaded w h state → (options_at w).read_only ≡ true
+    → CallsTell n w h size lines v g to → StoppedCall v g to now → now ≡ h

@@ -1,6 +1,6 @@
 //! The law of reports of a world.
 ghost use Rattle.tdb_world.specs.Courses.Changes.{StepsTellChanges};
-ghost use Rattle.tdb_world.specs.Courses.Laws.{ReportIsLawful, EndedFileOpens, EndsAlike};
+ghost use Rattle.tdb_world.specs.Courses.Laws.{ReportIsLawful, EndedFileOpens, EndsAlike, ReadOnlyFilesStay};
 ghost use Rattle.tdb_world.specs.Courses.Prepared.{PreparedCommitsEnd};
 
 /// The report of plays from a world just loaded is lawful, with the lines of the commands behind it that aren't done;
@@ -29,4 +29,10 @@ pub fn steps_tell_changes()
 /// world from its beginning on; the function does nothing.
 pub fn prepared_commits_end()
     ensures law { PreparedCommitsEnd }
+{}
+
+/// Where a world is loaded over a file that is read-only, whatever is played in it leaves the file as it is. The law is
+/// over all chains of calls that lines tell; the function does nothing.
+pub fn read_only_files_stay()
+    ensures law { ReadOnlyFilesStay }
 {}
