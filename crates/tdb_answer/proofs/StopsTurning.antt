@@ -1,12 +1,14 @@
 -- What stops leave of a file that is opened for turns, and of one that isn't.
-use Rattle.std.proofs.Common.{◌≡◌, ℕ, List, [], ◌++◌, length, Option, None, Some, Result, Ok, Err, false, refl, sym, ◌∙◌, ap, subst, inl, inr, arith}
+use Rattle.std.proofs.Common.{◌≡◌, ℕ, List, [], ◌++◌, length, Option, None, Some, Result, Ok, Err, true, false, refl, sym, ◌∙◌, ap, subst, inl, inr, arith}
 use Rattle.std.specs.Prelude.{Bool, IsTrue, OnOk, OnErr}
+use Rattle.std.proofs.lemmas.Bool.{cond-false}
 use Rattle.std.proofs.lemmas.List.{append-nil, take_all}
 use Rattle.tdb_disk.specs.History.{History, seen}
 use Rattle.tdb_disk.specs.Stop.{Quiet}
 use Rattle.tdb_disk.proofs.Runs.{leaves_weaker}
 use Rattle.tdb_space.specs.Accepted.{Accept, AcceptWith, Shut}
 use Rattle.tdb_space.specs.Form.{Form, form_of}
+use Rattle.tdb_space.specs.Opening.{is_open}
 use Rattle.tdb_space.specs.Undoing.{Reopens}
 use Rattle.tdb_space.proofs.Opening.Undone.{read_as_it_is}
 use Rattle.tdb_law.specs.Beginning.{nobody}
@@ -27,6 +29,7 @@ use Rattle.tdb_world.specs.Loaded.{IsOver, IsJustLoaded}
 use Rattle.tdb_world.specs.Whole.{Whole, form_at, options_at}
 use Rattle.tdb_openers.proofs.Joining.Courses.{course_whole}
 use Rattle.tdb_world.specs.Courses.Stops.{OpensOnTheWay}
+use Rattle.tdb_world.proofs.Courses.Reading.{read_only_stays}
 use Rattle.tdb_world.proofs.Courses.Stopping.{nothing_stays, opens_before, passes_here}
 use Rattle.tdb_answer.specs.declared.ending.Ending.{Ending}
 use Rattle.tdb_answer.specs.declared.ending.Ending.TheVariants.{DeviceFault, LogFault, NoMemory, Replied}
@@ -60,6 +63,18 @@ told_opened : (w : Whole) (h now : History) (sound : Type 0) (lines : List Line)
 told_opened w h now sound lines state just A from =
     inr (h, sym (own_shut (form_at w) (seen h) A), record { world = w; form = sym A.form; options = refl; state = state; just = just; from = from })
 
+-- where the file is to be read alone they leave it
+told_reading : (w : Whole) (h now : History) (from to : ℕ) (sound : Type 0) (lines : List Line) (state : State) → IsJustLoaded w h state → CallsFrom w h now from to sound lines → (options_at w).read_only ≡ true → seen now ≡ seen h
+told_reading w h now from to sound lines state just C reads = ap seen (read_only_stays C.count w C.last h C.left now from C.size lines state just reads C.calls C.stopped)
+
+-- a file whose gate isn't open is read as it is
+shut_bytes : (img : List ℕ) → is_open (form_of img) img ≡ false → opened_bytes img ≡ img
+shut_bytes img shut = cond-false (is_open (form_of img) img) _ img shut
+
+kept_bytes : (old now : History) → is_open (form_of (seen old)) (seen old) ≡ false → SameOrUndone old now → seen now ≡ seen old
+kept_bytes old now shut (inl undone) = undone.bytes ∙ shut_bytes (seen old) shut
+kept_bytes old now shut (inr same) = ap seen same
+
 -- and they tell those since the file was opened
 told_since : (options : Options) (old mid now : History) (sound : Type 0) (lines : List Line) → Accept (seen mid) → seen mid ≡ opened_bytes (seen old) → TellsCallsSince options mid now sound lines → TellsCallsSince options old now sound lines
 told_since options old mid now sound lines A reads (inl none) = inl none
@@ -85,6 +100,7 @@ turns_of w plays h now disk_tells told answer sound before after state just A he
   came = S.came heard state just.of_world;
   left = λ so. S.left so heard state just.of_world;
   calls = told_opened w h now sound S.lines state just A (S.calls heard state just.of_world);
+  unwritten = λ so. told_reading w h now _ _ sound S.lines state just (S.calls heard state just.of_world);
   stops = λ quiet again calm. S.stops heard state just.of_world (accepted_safe (form_at w) h A quiet) calm;
 }
 
@@ -157,9 +173,10 @@ halted_same options old now H.Memory sound opened = opened
 halted_same options old now H.Log sound opened = opened
 
 -- a file that can be opened, of which no play was taken
-pub unopened_stops : (options : Options) (plays : List Play) (old now : History) (told : Bool) (done unfailed sound : Type 0) (written : List ℕ) → CanOpen (seen old) → OpensSafely old now → (sound → SameOrUndone old now)
+pub unopened_stops : (options : Options) (plays : List Play) (old now : History) (told : Bool) (done unfailed sound : Type 0) (written : List ℕ) → CanOpen (seen old)
+    → (options.read_only ≡ true → is_open (form_of (seen old)) (seen old) ≡ false) → OpensSafely old now → (sound → SameOrUndone old now)
     → StopsOfTurns (form_of (opened_bytes (seen old))) options plays old now told done unfailed sound written written
-unopened_stops options plays old now told done unfailed sound written can safe kept =
+unopened_stops options plays old now told done unfailed sound written can shut safe kept =
     let r = opened_bytes (seen old) in
     let f = form_of r in
     let over : IsOver f r (fresh f options r) = record { file = refl; number = refl } in
@@ -184,6 +201,7 @@ unopened_stops options plays old now told done unfailed sound written can safe k
       came = (fresh f options r, course_whole f [] (law_plays plays) (fresh f options r) (fresh f options r) [] (refl, refl));
       left = λ so. (fresh f options r, course_whole f [] (law_plays plays) (fresh f options r) (fresh f options r) [] (refl, refl), kept_left f old now (fresh f options r) can.opens.accepted over (kept so));
       calls = inl refl;
+      unwritten = λ so reads. kept_bytes old now (shut reads) (kept so);
       stops = λ quiet again calm. record {
         opens = leaves_weaker old now (Reopens r) (OpensOnTheWay f (fresh f options r) []) (start_opens f r (fresh f options r) [] over) (safe quiet can.opens again);
         stays = nothing_stays f old now (fresh f options r);
@@ -198,9 +216,9 @@ opened_quiet options old mid (inr (inr kept)) quiet = subst Quiet (sym kept.1) q
 
 -- a file that was opened, and then played over; where the run is done the plays were, and where it is sound they are
 pub opened_stops : (options : Options) (plays : List Play) (old mid now : History) (told : Bool) (done unfailed sound ended printed calm : Type 0) (before after : List ℕ) → (done → ended) → (unfailed → printed) → (sound → calm)
-    → CanOpen (seen old) → OpensSafely old mid → IsOpened options old mid → Accept (seen mid)
+    → CanOpen (seen old) → (options.read_only ≡ true → is_open (form_of (seen old)) (seen old) ≡ false) → OpensSafely old mid → IsOpened options old mid → Accept (seen mid)
     → StopsOfTurns (form_of (seen mid)) options plays mid now told ended printed calm before after → StopsOfTurns (form_of (opened_bytes (seen old))) options plays old now told done unfailed sound before after
-opened_stops options plays old mid now told done unfailed sound ended printed calm before after to un still can safe opened A played =
+opened_stops options plays old mid now told done unfailed sound ended printed calm before after to un still can shut safe opened A played =
     let r = opened_bytes (seen old) in
     let f = form_of r in
     let p : StopsOfTurns f options plays mid now told ended printed calm before after = subst (λ i. StopsOfTurns (form_of i) options plays mid now told ended printed calm before after) opened.reads played in
@@ -216,6 +234,7 @@ opened_stops options plays old mid now told done unfailed sound ended printed ca
       came = p.came;
       left = λ so. p.left (still so);
       calls = since_when options old now calm sound p.lines still (told_since options old mid now calm p.lines A opened.reads p.calls);
+      unwritten = λ so reads. p.unwritten (still so) reads ∙ (opened.reads ∙ shut_bytes (seen old) (shut reads));
       stops = λ quiet again calm.
           opens_before f old mid now p.start (law_lines p.lines)
           (leaves_weaker old mid (Reopens r) (OpensOnTheWay f p.start (law_lines p.lines)) (start_opens f r p.start (law_lines p.lines) over) (safe quiet can.opens again))
@@ -232,7 +251,7 @@ module _ (options : Options) (plays : List Play) (held given : Option History) (
 
   -- it wasn't touched
   pub same_stops : (written : List ℕ) → given ≡ held → StopsHeld options plays held given told done unfailed sound written written
-  same_stops written same old is opens = (old, same ∙ is, unopened_stops options plays old old told done unfailed sound written opens.can_open (still_safe old old refl) (λ so. inr refl))
+  same_stops written same old is opens = (old, same ∙ is, unopened_stops options plays old old told done unfailed sound written opens.can_open opens.shut (still_safe old old refl) (λ so. inr refl))
 
   -- what says less often that the run is done, or that it is sound
   pub stops_when : (less printed calm : Type 0) (before after : List ℕ) → (less → done) → (printed → unfailed) → (calm → sound) → StopsHeld options plays held given told done unfailed sound before after
@@ -240,7 +259,7 @@ module _ (options : Options) (plays : List Play) (held given : Option History) (
   stops_when less printed calm before after to un still S old is opens =
       let s = S old is opens in
       let p = s.2 in
-      (s.0, s.1, record { lines = p.lines; start = p.start; loaded = p.loaded; over = p.over; printed = p.printed; whole = λ so. p.whole (to so); cut = λ so. p.cut (un so); came = p.came; left = λ so. p.left (still so); calls = since_when options old s.0 sound calm p.lines still p.calls; stops = p.stops })
+      (s.0, s.1, record { lines = p.lines; start = p.start; loaded = p.loaded; over = p.over; printed = p.printed; whole = λ so. p.whole (to so); cut = λ so. p.cut (un so); came = p.came; left = λ so. p.left (still so); calls = since_when options old s.0 sound calm p.lines still p.calls; unwritten = λ so. p.unwritten (still so); stops = p.stops })
 
 -- where no play was taken
 pub unscripted_stops : (input : Input) (options : Options) (held : Option History) (told : Bool) (done unfailed sound : Type 0) (written : List ℕ) → StopsScripted input options held held told done unfailed sound written written

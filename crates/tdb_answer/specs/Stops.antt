@@ -1,5 +1,5 @@
 -- What a stop at any moment of a run of turns leaves of its file, and by which lines this is said.
-use Rattle.std.specs.Prelude.{◌≡◌, ◌≢◌, ◌⊎◌, ℕ, Bool, IsTrue, Option, Some, List, [], ◌∷◌, ◌++◌, take, Result, Ok, Err, OnOk}
+use Rattle.std.specs.Prelude.{◌≡◌, ◌≢◌, ◌⊎◌, ℕ, Bool, IsTrue, Option, Some, List, [], ◌∷◌, ◌++◌, take, Result, Ok, Err, OnOk, true}
 use Rattle.tdb_backup.specs.Dump.{WroteFront}
 use Rattle.tdb_disk.specs.Count.{Rose}
 use Rattle.tdb_disk.specs.History.{History, seen}
@@ -120,6 +120,7 @@ pub record StopsOver (w : Whole) (disk_tells output_tells : Bool) (plays : List 
 -- behind them nothing but the lines of unfinished commands.
 -- They tell these plays as far as they came; where the disk is sound, to a state as whose file what is left is read.
 -- They tell the calls that were made on the file, of which each turn ends with Full exactly where there is no room.
+-- Where the disk is sound, a file that is to be read alone keeps its bytes.
 -- Where in no state that they pass an opener is in the middle of a change outside a transaction, and all of the file
 -- was on the medium at first, every stop since then leaves a file that opens to the map and the sequence number of a
 -- state that they pass, or of the transaction whose Commit was just shutting its gate; and what they tell stays. A file
@@ -135,6 +136,7 @@ pub record StopsOfTurns (f : Form) (options : Options) (plays : List Play) (old 
   pub came : CameBy f start plays lines
   pub left : sound → ComesToImage f start plays lines (seen now)
   pub calls : TellsCallsSince options old now sound lines
+  pub unwritten : sound → options.read_only ≡ true → seen now ≡ seen old
   pub stops : StopsSince f old now start (law_lines lines)
 
 -- So it is of a file that is opened for turns with these options.

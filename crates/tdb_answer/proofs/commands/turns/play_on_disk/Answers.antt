@@ -63,7 +63,7 @@ returns-clause-played g c told =
 -- what stops leave where it wasn't opened
 pub returns-in-Err-clause-stops : goal.returns-in-Err-clause-stops
 returns-in-Err-clause-stops g c told opens =
-    unopened_stops c.args.options.now c.args.plays.now (g.D.Disk.history c.args.disk) (g.D.Disk.history c.in-Err.disk) g.K.Sink.tells _ _ _ (g.K.Sink.written c.args.output.now) opens.can_open (c.in-Err.ensures.halted.stops told)
+    unopened_stops c.args.options.now c.args.plays.now (g.D.Disk.history c.args.disk) (g.D.Disk.history c.in-Err.disk) g.K.Sink.tells _ _ _ (g.K.Sink.written c.args.output.now) opens.can_open opens.shut (c.in-Err.ensures.halted.stops told)
     (λ sound. halted_same c.args.options.now (g.D.Disk.history c.args.disk) (g.D.Disk.history c.in-Err.disk) c.in-Err.halt (λ is. sound (c.in-Err.ensures.cause.failed is)) (c.in-Err.ensures.halted.opened told))
 
 -- and where it was; loading it made no call fail
@@ -79,7 +79,7 @@ returns-clause-stops g c told opens =
     let calm = Sound g a w.faults in
     let r = c.play_all-disk.result.1 in
     opened_stops c.args.options.now c.args.plays.now (g.D.Disk.history c.args.disk) w.history (g.D.Disk.history c.play_all-disk.result.0) g.K.Sink.tells _ _ (Sound g a (g.D.Disk.faults c.args.disk)) (TellsAllLines r) (OnErr r ⊥) calm
-    (g.K.Sink.written c.args.output.now) (g.K.Sink.written c.play_all-disk.new.output) (λ said. all_said r (subst SaysAllLines c.told.ensures said)) (λ un. said_unfailed r (subst (λ (x : Result Ending Unprinted). OnErr x ⊥) c.told.ensures un)) (subst (Sound g a) (sym c.in-Ok.ensures.done)) opens.can_open (O.stops told) (O.opened told).1 (c.in-Ok.ensures.loaded.checked told).accepted
+    (g.K.Sink.written c.args.output.now) (g.K.Sink.written c.play_all-disk.new.output) (λ said. all_said r (subst SaysAllLines c.told.ensures said)) (λ un. said_unfailed r (subst (λ (x : Result Ending Unprinted). OnErr x ⊥) c.told.ensures un)) (subst (Sound g a) (sym c.in-Ok.ensures.done)) opens.can_open opens.shut (O.stops told) (O.opened told).1 (c.in-Ok.ensures.loaded.checked told).accepted
     (of_file g a told (λ f options. StopsOfTurns f options c.args.plays.now w.history (g.D.Disk.history c.play_all-disk.result.0) g.K.Sink.tells (TellsAllLines r) (OnErr r ⊥) calm (g.K.Sink.written c.args.output.now) (g.K.Sink.written c.play_all-disk.new.output))
     (c.play_all-disk.ensures.stops told start.0 start.1))
 
