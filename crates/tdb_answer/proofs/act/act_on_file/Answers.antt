@@ -1,7 +1,6 @@
 use Rattle.std.proofs.Common.{◌≡◌, [], true, ◌<◌, Err, Some, refl, sym, ap, subst, arith}
 use Rattle.tdb_disk.specs.History.{began}
 use Rattle.tdb_disk.specs.Count.{Rose}
-use Rattle.tdb_disk.specs.declared.files.Take.TheVariants.{Existing, New}
 use Rattle.tdb_cmdline.specs.declared.ask.Task.TheVariants.{On}
 use Rattle.tdb_open.specs.declared.halt.Halt.TheVariants.{Device}
 use Rattle.tdb_answer.specs.Ending.{TaskCause, of_halt}
@@ -17,7 +16,7 @@ use Rattle.tdb_answer.proofs.act.act_on_file.Goals.{After-give}
 -- the file that was taken is what was held at its name
 there : (g : _) (c : After-give g) → g.F.D.Disk.tells ≡ true → g.F.Files.held c.args.files.now c.args.name.now ≡ Some (g.F.D.Disk.history c.in-Ok.disk)
 there g c told = held_there (g.F.Files.held c.args.files.now c.args.name.now) (began []) (g.F.D.Disk.history c.in-Ok.disk)
-    (λ none. let existing : Existing ≡ New → ⊥ = (λ e. cc) in let wrong = (c.in-Ok.ensures.missing told).1 (none, existing) in cc) (c.in-Ok.ensures.disk told)
+    (λ none. let wrong = (c.in-Ok.ensures.missing told).1 (none, λ e. cc) in cc) (c.in-Ok.ensures.disk told)
 
 -- the act replied
 pub returns-in-Ok-acted-clause-cause : goal.returns-in-Ok-acted-clause-cause
@@ -55,13 +54,13 @@ returns-in-Err-acted-clause-left g c told =
 pub returns-in-Err-clause-cause : goal.returns-in-Err-clause-cause
 returns-in-Err-clause-cause g c told =
     untaken_cause (On c.args.act.now) c.args.name.now (g.F.Files.held c.args.files.now c.args.name.now) _ _ refl c.in-Err.refusal _
-    (λ is. ((c.in-Err.ensures.missing told).0 (ap Err is)).0) (λ is. let new : Existing ≡ New = c.in-Err.ensures.there_how (ap Err is) in cc)
+    (λ is. ((c.in-Err.ensures.missing told).0 (ap Err is)).0) (λ is. let new = c.in-Err.ensures.there_how (ap Err is) in cc)
     (λ is. c.in-Err.ensures.cause.failed is) c.untaken.ensures
 
 pub returns-in-Err-clause-left : goal.returns-in-Err-clause-left
 returns-in-Err-clause-left g c told =
     untaken_left c.args.act.now c.args.name.now (g.F.Files.held c.args.files.now c.args.name.now) (g.F.Files.held c.take.new.self c.args.name.now) c.in-Err.refusal _
-    (c.in-Err.ensures.refused_held c.args.name.now) (λ is. ((c.in-Err.ensures.missing told).0 (ap Err is)).0) (λ is. let new : Existing ≡ New = c.in-Err.ensures.there_how (ap Err is) in cc) c.untaken.ensures
+    (c.in-Err.ensures.refused_held c.args.name.now) (λ is. ((c.in-Err.ensures.missing told).0 (ap Err is)).0) (λ is. let new = c.in-Err.ensures.there_how (ap Err is) in cc) c.untaken.ensures
 
 -- what logs heard of it
 pub returns-in-Ok-acted-clause-heard : goal.returns-in-Ok-acted-clause-heard
@@ -81,5 +80,5 @@ returns-in-Err-acted-clause-heard g c told =
 
 pub returns-in-Err-clause-heard : goal.returns-in-Err-clause-heard
 returns-in-Err-clause-heard g c told =
-    act_untaken c.args.name.now c.in-Err.refusal c.untaken.result (g.L.Logs.logs c.args.logs.now) (λ is. let new : Existing ≡ New = c.in-Err.ensures.there_how (ap Err is) in cc) c.untaken.ensures
+    act_untaken c.args.name.now c.in-Err.refusal c.untaken.result (g.L.Logs.logs c.args.logs.now) (λ is. let new = c.in-Err.ensures.there_how (ap Err is) in cc) c.untaken.ensures
     c.args.act.now.limit (g.F.Files.held c.args.files.now c.args.name.now) (g.F.Files.held c.take.new.self c.args.name.now) (λ is. ((c.in-Err.ensures.missing told).0 (ap Err is)).0)

@@ -1,6 +1,5 @@
 use Rattle.std.proofs.Common.{◌≡◌, [], true, Err, Some, refl, sym, ap, subst}
 use Rattle.tdb_disk.specs.History.{began}
-use Rattle.tdb_disk.specs.declared.files.Take.TheVariants.{ReadOnly, New}
 use Rattle.tdb_cmdline.specs.declared.ask.Task.TheVariants.{Read}
 use Rattle.tdb_answer.specs.Looks.{LookText, ending_of}
 use Rattle.tdb_answer.proofs.Acting.{untaken_cause}
@@ -14,7 +13,7 @@ use Rattle.tdb_answer.proofs.look.look_on_file.Goals.{After-give}
 -- the file that was taken is what was held at its name
 there : (g : _) (c : After-give g) → g.F.D.Disk.tells ≡ true → g.F.Files.held c.args.files.now c.args.name.now ≡ Some (g.F.D.Disk.history c.in-Ok.disk)
 there g c told = held_there (g.F.Files.held c.args.files.now c.args.name.now) (began []) (g.F.D.Disk.history c.in-Ok.disk)
-    (λ none. let alone : ReadOnly ≡ New → ⊥ = (λ e. cc) in let wrong = (c.in-Ok.ensures.missing told).1 (none, alone) in cc) (c.in-Ok.ensures.disk told)
+    (λ none. let wrong = (c.in-Ok.ensures.missing told).1 (none, λ e. cc) in cc) (c.in-Ok.ensures.disk told)
 
 -- the look ended
 pub returns-in-Ok-clause-cause : goal.returns-in-Ok-clause-cause
@@ -29,7 +28,7 @@ returns-in-Ok-clause-cause g c told =
 pub returns-in-Err-clause-cause : goal.returns-in-Err-clause-cause
 returns-in-Err-clause-cause g c told =
     untaken_cause (Read c.args.look.now) c.args.name.now (g.F.Files.held c.args.files.now c.args.name.now) _ _ refl c.in-Err.refusal _
-    (λ is. ((c.in-Err.ensures.missing told).0 (ap Err is)).0) (λ is. let new : ReadOnly ≡ New = c.in-Err.ensures.there_how (ap Err is) in cc)
+    (λ is. ((c.in-Err.ensures.missing told).0 (ap Err is)).0) (λ is. let new = c.in-Err.ensures.there_how (ap Err is) in cc)
     (λ is. c.in-Err.ensures.cause.failed is) c.untaken.ensures
 
 pub returns-in-Err-clause-began : goal.returns-in-Err-clause-began
@@ -44,5 +43,5 @@ returns-in-Ok-clause-heard g c told =
 
 pub returns-in-Err-clause-heard : goal.returns-in-Err-clause-heard
 returns-in-Err-clause-heard g c told =
-    look_untaken c.args.name.now c.in-Err.refusal c.untaken.result (g.L.Logs.logs c.args.logs.now) (λ is. let new : ReadOnly ≡ New = c.in-Err.ensures.there_how (ap Err is) in cc) c.untaken.ensures
+    look_untaken c.args.name.now c.in-Err.refusal c.untaken.result (g.L.Logs.logs c.args.logs.now) (λ is. let new = c.in-Err.ensures.there_how (ap Err is) in cc) c.untaken.ensures
     (g.F.Files.held c.args.files.now c.args.name.now) (λ is. ((c.in-Err.ensures.missing told).0 (ap Err is)).0)
