@@ -3,8 +3,6 @@ use Rattle.std.proofs.Common.{◌≡◌, ◌<◌, ◌≤◌, ℕ, zero, suc, ◌
 use Rattle.tdb_disk.specs.Count.{RoseBy}
 use Rattle.tdb_disk.specs.History.{History, seen}
 use Rattle.tdb_words.specs.declared.word.Order.{Order}
-use Rattle.tdb_words.specs.Word.{word}
-use Rattle.tdb_words.specs.Header.{area_head}
 use Rattle.tdb_space.specs.Extents.{Extent}
 use Rattle.tdb_space.specs.Form.{form_of}
 use Rattle.tdb_space.specs.Planned.{content_length}
@@ -27,7 +25,7 @@ use Rattle.tdb_txn_turns.specs.declared.finishing.Finishing.TheVariants.{Open, A
 use Rattle.tdb_txn_turns.specs.declared.preparing.Preparing.{Preparing as Prepare}
 use Rattle.tdb_txn_turns.specs.declared.preparing.PrepareStage.{PrepareStage}
 use Rattle.tdb_txn_turns.specs.declared.preparing.PrepareStage.TheVariants.{Unchanged, Begun, Records, Locked, Planned, Filled}
-use Rattle.tdb_world.specs.Syncs.{syncs_from, AreaHolds, AreaLacks, CommitsBy, CommitsInto, CommitsSyncExactly, CommitsSyncSeldom, IsCommitInto, SyncsInAll}
+use Rattle.tdb_world.specs.Syncs.{syncs_from, CommitsBy, CommitsInto, CommitsSyncExactly, CommitsSyncSeldom, IsCommitInto, SyncsInAll}
 use Rattle.tdb_world.proofs.GateUndone.{rose_then}
 
 -- what a turn makes, and what is left then
