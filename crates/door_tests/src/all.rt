@@ -2,8 +2,8 @@
 
 use crate::tables::first_failure;
 use crate::{
-    backup, changes, create, generate, growths, inserts, limits, lines, logs, long, mends, merges,
-    moves, options, printing, rescues, rewrites, sessions, summaries, turns, undo, verify,
+    backup, changes, create, faults, generate, growths, inserts, limits, lines, logs, long, mends,
+    merges, moves, options, printing, rescues, rewrites, sessions, summaries, turns, undo, verify,
 };
 
 // In parts: a list of all tables is more than the prover computes in one step.
@@ -70,6 +70,11 @@ fn runs_beside_the_tables(rt: HostRuntime) {
     ] {
         assert_eq!(rt; failing, Ok(None), "{table}");
     }
+}
+
+#[test]
+fn calls_that_fail_in_a_command(rt: HostRuntime) {
+    assert_eq!(rt; faults::failing_row(rt.alloc()), Ok(None));
 }
 
 // Apart from the others, since a line of sixteen megabytes takes `rt try` longer than all of these.

@@ -10,6 +10,8 @@ mod changes;
 #[cfg(test)]
 mod create;
 #[cfg(test)]
+mod faults;
+#[cfg(test)]
 mod generate;
 #[cfg(test)]
 mod growths;

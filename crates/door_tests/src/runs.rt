@@ -24,6 +24,17 @@ pub(crate) enum Failing {
     Output(u64),
 }
 
+/// Each kind of call of a disk.
+pub(crate) static CALLS: [(&'static str, Call); 7] = [
+    ("lengths", Call::Len),
+    ("reads", Call::Read),
+    ("writes", Call::Write),
+    ("words", Call::WriteWord),
+    ("growths", Call::Grow),
+    ("cuts", Call::Cut),
+    ("syncs", Call::Sync),
+];
+
 /// A command line: its words with blanks between them, its input, what fails in its run, its status, and what it
 /// prints.
 pub(crate) type Line<'a> = (&'a str, &'a str, Failing, u8, &'a str);

@@ -2,7 +2,7 @@
 
 use crate::images::{NEW, ONE};
 use crate::runs::Failing::{Disk, Nothing};
-use crate::runs::{USAGE, answer};
+use crate::runs::{CALLS, USAGE, answer};
 use crate::tables::{Left, Table, files_of};
 use std::alloc::{AllocError, Global};
 use tdb_disk::{Call, MemFiles};
@@ -218,15 +218,6 @@ fn changes_safely(alloc: Global, call: Call) -> Result<bool, AllocError> {
     }
     Ok(false)
 }
-
-static CALLS: [(&'static str, Call); 6] = [
-    ("lengths", Call::Len),
-    ("reads", Call::Read),
-    ("writes", Call::Write),
-    ("words", Call::WriteWord),
-    ("growths", Call::Grow),
-    ("syncs", Call::Sync),
-];
 
 /// The first calls of which that isn't so.
 pub(crate) fn failing_call(alloc: Global) -> Result<Option<&'static str>, AllocError> {
