@@ -3,7 +3,8 @@
 use crate::tables::first_failure;
 use crate::{
     backup, changes, create, faults, generate, growths, inserts, limits, lines, logs, long, mends,
-    merges, moves, options, printing, rescues, rewrites, sessions, summaries, turns, undo, verify,
+    merges, moves, options, pipes, printing, rescues, rewrites, sessions, summaries, turns, undo,
+    verify,
 };
 
 // In parts: a list of all tables is more than the prover computes in one step.
@@ -67,6 +68,7 @@ fn runs_beside_the_tables(rt: HostRuntime) {
         ("looks at damaged files", mends::failing_look(alloc)),
         ("summaries", summaries::failing_growth(alloc)),
         ("calls that fail in a commit", turns::failing_call(alloc)),
+        ("a pipe that is held open", pipes::failing_session(alloc)),
     ] {
         assert_eq!(rt; failing, Ok(None), "{table}");
     }

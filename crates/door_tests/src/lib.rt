@@ -36,6 +36,8 @@ mod moves;
 #[cfg(test)]
 mod options;
 #[cfg(test)]
+mod pipes;
+#[cfg(test)]
 mod printing;
 #[cfg(test)]
 mod rescues;

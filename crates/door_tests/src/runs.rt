@@ -4,7 +4,7 @@ ghost use Rattle.std.specs.Prelude.{◌≡◌, ℕ, List, false};
 ghost use Rattle.tdb_disk.specs.MemFiles.{name_is_taken};
 
 use std::alloc::{AllocError, Global};
-use tdb_disk::{Call, MemFiles, MemSink, MemSource};
+use tdb_disk::{Call, MemFiles, MemSink, MemSource, Sink, Source};
 use tdb_log::Log;
 use tdb_top::{Status, run};
 
@@ -40,12 +40,12 @@ pub(crate) static CALLS: [(&'static str, Call); 7] = [
 pub(crate) type Line<'a> = (&'a str, &'a str, Failing, u8, &'a str);
 
 /// Runs words with blanks between them.
-fn run_over(
+pub(crate) fn run_over<S: Source, K: Sink>(
     alloc: Global,
     words: &str,
     files: &mut MemFiles,
-    input: &mut MemSource,
-    output: &mut MemSink,
+    input: &mut S,
+    output: &mut K,
     logs: &mut Vec<Box<dyn Log>>,
 ) -> Result<u8, AllocError>
     requires { (name : List ℕ) → name_is_taken files.old name ≡ false }
