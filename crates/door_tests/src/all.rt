@@ -69,6 +69,7 @@ fn runs_beside_the_tables(rt: HostRuntime) {
         ("summaries", summaries::failing_growth(alloc)),
         ("calls that fail in a commit", turns::failing_call(alloc)),
         ("a pipe that is held open", pipes::failing_session(alloc)),
+        ("damaged undo areas", undo::failing_damage(alloc)),
     ] {
         assert_eq!(rt; failing, Ok(None), "{table}");
     }
