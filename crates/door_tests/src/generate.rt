@@ -6,6 +6,7 @@ use crate::runs::Failing::{Disk, Files, Nothing, Output};
 use crate::runs::{USAGE, answer};
 use crate::tables::{Left, Table};
 use std::alloc::{AllocError, Global};
+use std::str::from_utf8;
 use tdb_disk::{Call, MemFiles};
 use tdb_log::Notice;
 
@@ -118,20 +119,32 @@ pub(crate) static TABLES: [Table; 9] = [
     },
 ];
 
-/// What is otherwise with a load that is done twice.
+/// What stands behind a word at the front of a line of this text.
+fn told_of<'a>(text: &'a str, word: &str) -> Option<&'a str> {
+    for line in text.lines() {
+        if let Some(number) = line.strip_prefix(word) {
+            return Some(number);
+        }
+    }
+    None
+}
+
+/// What is otherwise with ten thousand commands that are done twice.
 pub(crate) fn failing_load(alloc: Global) -> Result<Option<&'static str>, AllocError> {
     let logs = &mut Vec::new(alloc);
     let mut files = MemFiles::new(alloc);
-    let (one, first) = answer(alloc, &mut files, "gen 300 1 f.tdb", b"", &Nothing, logs)?;
-    let (two, other) = answer(alloc, &mut files, "gen 300 1 g.tdb", b"", &Nothing, logs)?;
-    if one != 0 || two != 0 || first.as_slice() != other.as_slice() {
+    let (one, first) = answer(alloc, &mut files, "gen 10000 1 f.tdb", b"", &Nothing, logs)?;
+    let (two, other) = answer(alloc, &mut files, "gen 10000 1 g.tdb", b"", &Nothing, logs)?;
+    let summary = from_utf8(&first).unwrap_or("");
+    if one != 0 || two != 0 || told_of(summary, "commands ") != Some("10000") {
+        return Ok(Some("a load"));
+    }
+    if first.as_slice() != other.as_slice() || files.get("f.tdb") != files.get("g.tdb") {
         return Ok(Some("a load twice"));
     }
-    Ok(if files.get("f.tdb") == files.get("g.tdb") {
-        None
-    } else {
-        Some("the files of a load twice")
-    })
+    let (_, checked) = answer(alloc, &mut files, "tool f.tdb check", b"", &Nothing, logs)?;
+    let number = told_of(from_utf8(&checked).unwrap_or(""), "number ");
+    Ok((number.is_none() || number != told_of(summary, "live ")).then_some("a check of a load"))
 }
 
 /// How the file of one command grows.
