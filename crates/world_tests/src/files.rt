@@ -4,7 +4,7 @@ use small_file::{HEADER, Word};
 use std::alloc::{AllocError, Global};
 use tdb_commands::Options;
 use tdb_disk::MemDisk;
-use tdb_words::{Header, header_bytes, word_bytes};
+use tdb_words::{Header, Order, header_bytes, word_bytes};
 
 /// How a file is opened where nothing else is said.
 pub(crate) const OPTIONS: Options = Options {
@@ -14,11 +14,12 @@ pub(crate) const OPTIONS: Options = Options {
     seqnum: false,
 };
 
-/// A file: its header, with its sequence number, its length in bytes, and the words behind its header that aren't 0.
+/// A file: its header, with its sequence number, its length in bytes, and the words behind its header that aren't 0, of
+/// which the later ones overwrite the earlier ones.
 pub(crate) struct Image {
     pub(crate) header: Header,
     pub(crate) len: usize,
-    pub(crate) words: &'static [Word],
+    pub(crate) words: &'static [&'static [Word]],
 }
 
 /// A new file.
@@ -35,6 +36,13 @@ fn put(bytes: &mut [u8], at: usize, what: &[u8]) {
     }
 }
 
+/// Puts words of a byte order at their offsets.
+fn put_words(bytes: &mut [u8], order: Order, words: &[Word]) {
+    for (at, word) in words {
+        put(bytes, *at, &word_bytes(*word, order));
+    }
+}
+
 /// A disk with a file.
 pub(crate) fn disk_of(alloc: Global, image: &Image) -> Result<MemDisk, AllocError> {
     let header = &image.header;
@@ -42,8 +50,8 @@ pub(crate) fn disk_of(alloc: Global, image: &Image) -> Result<MemDisk, AllocErro
     let mut bytes = vec![in alloc; 0u8; image.len]?;
     put(&mut bytes, 0, &front);
     put(&mut bytes, 48, &word_bytes(header.sequence, header.order));
-    for (at, word) in image.words {
-        put(&mut bytes, *at, &word_bytes(*word, header.order));
+    for words in image.words {
+        put_words(&mut bytes, header.order, *words);
     }
     MemDisk::new(alloc, &bytes)
 }

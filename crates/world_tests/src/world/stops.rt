@@ -1,11 +1,11 @@
-// Stops in the midst of a commit.
+// Stops in the midst of a commit, and of openings that undo what one left.
 
-use crate::files::{OPTIONS, disk_of};
-use crate::world::files::ONE;
+use crate::files::{Image, OPTIONS, disk_of};
+use crate::world::files::{ONE, OPEN, OPEN_WITH_HEADER};
 use crate::world::worlds::{print, take_script};
 use std::alloc::{AllocError, Global};
 use tdb_commands::TurnReport;
-use tdb_disk::{Disk, FuseDisk, MemDisk, MemSink, Pick};
+use tdb_disk::{Call, Disk, FuseDisk, MemDisk, MemSink, Pick};
 use tdb_log::Log;
 
 const COMMIT: &[u8] = b"open\ndo 1 start\ndo 1 store a 9\ndo 1 commit\n";
@@ -78,4 +78,111 @@ pub(crate) fn failing_stop(alloc: Global) -> Result<Option<u64>, AllocError> {
         committed = stopped.committed;
     }
     Ok(if committed { None } else { Some(200) })
+}
+
+static RECOVERIES: [(&'static str, Image); 2] = [
+    ("a recovery", OPEN),
+    ("a recovery with the header", OPEN_WITH_HEADER),
+];
+
+/// Whether the file on a disk is opened and has the old value then. The disk comes back.
+fn has_old_value<D: Disk>(alloc: Global, disk: D) -> (D, bool) {
+    let (disk, text) = told(alloc, disk, FETCH);
+    let is_old = match text {
+        Some(text) => text.as_slice() == OLD_VALUE,
+        None => false,
+    };
+    (disk, is_old)
+}
+
+/// Whether one of these files has these bytes.
+fn is_known(files: &[MemDisk], bytes: &[u8]) -> bool {
+    for disk in files {
+        if disk.as_slice() == bytes {
+            return true;
+        }
+    }
+    false
+}
+
+/// Puts down what a stop may leave of a disk, but for what stands there already.
+fn push_left(alloc: Global, left: &mut Vec<MemDisk>, disk: &MemDisk) -> Result<(), AllocError> {
+    for pick in [Pick::Synced, Pick::Read, Pick::Torn] {
+        let stopped = disk.after_stop(alloc, pick)?;
+        if !is_known(left.as_slice(), stopped.as_slice()) {
+            left.push(stopped)?;
+        }
+    }
+    Ok(())
+}
+
+/// Puts down what a stop before each call of a kind may leave of a file, up to the opening in which all are made.
+/// Whether that comes, and has the old value.
+fn push_stops(
+    alloc: Global,
+    left: &mut Vec<MemDisk>,
+    bytes: &[u8],
+    call: Call,
+) -> Result<bool, AllocError> {
+    for nth in 0..64 {
+        let mut disk = MemDisk::new(alloc, bytes)?;
+        disk.fail(call, nth)?;
+        let (disk, is_old) = has_old_value(alloc, disk);
+        push_left(alloc, left, &disk)?;
+        if is_old {
+            return Ok(true);
+        }
+    }
+    Ok(false)
+}
+
+/// All that a stop before each call that changes the disk may leave of a file, up to its opening with the old value.
+/// None where that doesn't come.
+fn all_left(alloc: Global, bytes: &[u8]) -> Result<Option<Vec<MemDisk>>, AllocError> {
+    let mut left = Vec::new(alloc);
+    for call in [Call::Write, Call::WriteWord, Call::Cut, Call::Sync] {
+        if !push_stops(alloc, &mut left, bytes, call)? {
+            return Ok(None);
+        }
+    }
+    Ok(Some(left))
+}
+
+/// Whether each of these files is opened and has the old value then.
+fn all_come_back(alloc: Global, files: Vec<MemDisk>) -> bool {
+    for disk in files {
+        let (_disk, is_old) = has_old_value(alloc, disk);
+        if !is_old {
+            return false;
+        }
+    }
+    true
+}
+
+/// Whether each of these files comes back, and so does all that a stop in the midst of that may leave of it.
+fn stop_again(alloc: Global, files: &[MemDisk]) -> Result<bool, AllocError> {
+    for disk in files {
+        let Some(second) = all_left(alloc, disk.as_slice())? else {
+            return Ok(false);
+        };
+        if !all_come_back(alloc, second) {
+            return Ok(false);
+        }
+    }
+    Ok(true)
+}
+
+/// The first opening of a file with an open gate that doesn't bring the old value back after two stops.
+pub(crate) fn failing_recovery(alloc: Global) -> Result<Option<&'static str>, AllocError> {
+    for (name, image) in &RECOVERIES {
+        let disk = disk_of(alloc, image)?;
+        let holds = match all_left(alloc, disk.as_slice())? {
+            Some(first) => stop_again(alloc, &first)?,
+            None => false,
+        };
+        if !holds {
+            return Ok(Some(*name));
+        }
+    }
+    Ok(None)
 }
