@@ -15,11 +15,12 @@ pub(crate) fn long_words(alloc: Global, front: &str) -> Result<String, AllocErro
     Ok(words)
 }
 
-/// The first run over a new file that goes otherwise: a long word in a file that may have 4096 bytes, a line that is
-/// one byte too long, and one that isn't. The file stays as long as it was.
+/// The first run over a new file that goes otherwise: a long word in a file that may have 4096 bytes; a line and a
+/// script that are one byte too long, and ones that aren't. The file stays as long as it was.
 pub(crate) fn failing_run(alloc: Global) -> Result<Option<&'static str>, AllocError> {
     let store = long_words(alloc, "tool --limit 4096 f.tdb store a ")?;
     let blanks = vec![in alloc; b' '; 16_777_217]?;
+    let newlines = vec![in alloc; b'\n'; 16_777_217]?;
     for (name, words, text, status, printed) in [
         (
             "a long value",
@@ -36,6 +37,14 @@ pub(crate) fn failing_run(alloc: Global) -> Result<Option<&'static str>, AllocEr
             "input malformed at 0\n",
         ),
         ("a line that is long", "tool f.tdb", &blanks[1..], 0, ""),
+        (
+            "a script that is too long",
+            "turns f.tdb",
+            &newlines[..],
+            7,
+            "input malformed at 16777216\n",
+        ),
+        ("a script that is long", "turns f.tdb", &blanks[1..], 0, ""),
     ] {
         let mut files = files_of(alloc, &[("f.tdb", NEW)])?;
         let logs = &mut Vec::new(alloc);
