@@ -14,6 +14,7 @@ pub mod Turns
 pub mod Went
 pub mod Arrived
 pub mod Coming
+pub mod Costs
 pub mod Decided
 pub mod Making
 pub mod Stepping

@@ -1,5 +1,5 @@
 -- The first chain of an image that has a record.
-use Rattle.std.specs.Prelude.{◌≡◌, ℕ, ◌+◌, ◌-◌, ◌*◌, ◌≤◌, ◌<◌, List, Option, None, Some}
+use Rattle.std.specs.Prelude.{◌≡◌, ℕ, ◌+◌, ◌-◌, ◌*◌, ◌≤◌, ◌<◌, min, List, Option, None, Some}
 use Rattle.tdb_words.specs.declared.word.Order.{Order}
 use Rattle.tdb_words.specs.Word.{word}
 use Rattle.tdb_space.specs.Form.{Form, chain_head}
@@ -38,10 +38,10 @@ IsFirstWord o words count chain None = (j : ℕ) → j < count → word o words 
 IsFirstWord o words count chain (Some found) = (i : ℕ) × (i < count) × WordAt o words chain i found
 
 -- How many bytes of heads a search from a chain on reads at most: where none has a record, each head once; else those
--- up to the one that is found, and one block from there on.
+-- up to the one that is found, and a block of up to 1024 from there on.
 abbrev pub heads_read : ℕ → ℕ → Option Head → ℕ
 heads_read chains from None = 4 * (chains - from)
-heads_read chains from (Some found) = 4 * (found.chain - from) + 4096
+heads_read chains from (Some found) = 4 * (found.chain - from) + 4 * min 1024 (chains - found.chain)
 
 -- no chain of an image from a number on has a record
 abbrev pub NoneFilled : Form → List ℕ → ℕ → Type 0

@@ -2,6 +2,7 @@ pub mod Heads
 pub mod NextLive
 pub mod Looks
 pub mod Way
+pub mod Reads
 pub mod ByteLocks
 pub mod Cursors
 pub mod Purging

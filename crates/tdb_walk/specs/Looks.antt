@@ -18,6 +18,11 @@ abbrev pub Shows : Form → List ℕ → Head → Look → Type 0
 Shows f img head (Seen found) = FindsIn f img head found
 Shows f img head (Stopped owner byte) = Unit {0}
 
+-- a record that is shown is one of this chain
+abbrev pub ShowsOf : ℕ → Look → Type 0
+ShowsOf chain (Seen found) = IfSome found (λ live. live.chain ≡ chain)
+ShowsOf chain (Stopped owner byte) = Unit {0}
+
 -- a record that is shown lies within the file
 abbrev pub LooksWithin : Form → ℕ → Look → Type 0
 LooksWithin f size (Seen found) = IfSome found (λ live. IsWithin f size live)

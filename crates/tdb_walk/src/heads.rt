@@ -1,6 +1,6 @@
 // The heads of the chains.
 
-ghost use Rattle.std.specs.Prelude.{◌≡◌, ◌+◌, ◌*◌, ◌≤◌, ◌<◌, ◌^◌, IsTrue, IfOk, IfSome, length};
+ghost use Rattle.std.specs.Prelude.{◌≡◌, ◌+◌, ◌-◌, ◌*◌, ◌≤◌, ◌<◌, ◌^◌, IsTrue, IfOk, IfSome, length};
 ghost use Rattle.tdb_disk.specs.Count.{HasCause, RoseUpTo};
 ghost use Rattle.tdb_space.specs.Frame.{Looked};
 ghost use Rattle.tdb_space.specs.Form.{data_start};
@@ -49,7 +49,7 @@ pub(crate) fn first_filled<S: Space>(s: &mut S, len: u64, from: u32) -> Result<O
     ensures looked { Looked S.Space s.old s.new }
     ensures cause { HasCause (S.faults s.old) (S.faults s.new) result }
     ensures cost { IfOk result (λ found. RoseUpTo (heads_read (S.form s.old).chains from found) (S.bytes_read s.old) (S.bytes_read s.new)) }
-    ensures bytes_read { S.bytes_read s.old ≤ S.bytes_read s.new }
+    ensures bytes_read { RoseUpTo (4 * ((S.form s.old).chains - from)) (S.bytes_read s.old) (S.bytes_read s.new) }
 {
     let chains = s.hash_size();
     let order = s.order();

@@ -1,10 +1,12 @@
 // A look at one chain, which is held for reading meanwhile.
 
-ghost use Rattle.std.specs.Prelude.{◌≡◌, ◌≤◌, ◌<◌, ◌+◌, ◌*◌, IsTrue, List, ℕ, IfOk};
-ghost use Rattle.tdb_disk.specs.Count.{HasCauseOf};
+ghost use Rattle.std.specs.Prelude.{◌≡◌, ◌≤◌, ◌<◌, ◌+◌, ◌*◌, ◌/◌, IsTrue, List, ℕ, IfOk, length};
+ghost use Rattle.tdb_disk.specs.Count.{HasCauseOf, RoseUpTo};
 ghost use Rattle.tdb_space.specs.Frame.{Looked};
+ghost use Rattle.tdb_space.specs.Chain.{offsets};
 ghost use Rattle.tdb_walk.specs.Way.{lock_byte, reads_chain, LooksRightly, SameLocks};
-ghost use Rattle.tdb_walk.specs.Looks.{Shows, LooksWithin};
+ghost use Rattle.tdb_walk.specs.Looks.{Shows, ShowsOf, LooksWithin};
+ghost use Rattle.tdb_walk.specs.Reads.{records_reads};
 ghost use Rattle.tdb_walk.specs.declared.refusal.WalkRefusal.TheVariants.{Io};
 
 use crate::heads::Head;
@@ -52,11 +54,13 @@ pub(crate) fn look_along<S: Space>(
     requires below { head.chain < (S.form s.old).chains }
     ensures shows { IfOk result (λ look. IsTrue S.tells → Shows (S.form s.old) (S.image s.old) head look) }
     ensures within { IfOk result (λ look. LooksWithin (S.form s.old) (S.size s.old) look) }
+    ensures chain { IfOk result (ShowsOf head.chain) }
     ensures rightly { IfOk result (LooksRightly locks.old owner own.now head.chain) }
     ensures locks { SameLocks locks.old locks.new }
     ensures looked { Looked S.Space s.old s.new }
     ensures cause { HasCauseOf Io (S.faults s.old) (S.faults s.new) result }
     ensures bytes_read { S.bytes_read s.old ≤ S.bytes_read s.new }
+    ensures reads { IsTrue S.tells → RoseUpTo (records_reads (S.form s.old) (S.image s.old) (offsets (S.form s.old).order (S.image s.old) (length (S.image s.old) / 4) head.first)) (S.bytes_read s.old) (S.bytes_read s.new) }
 {
     let byte = lock_byte(head.chain);
     if may_read(own, head.chain) || locks.kind_of(owner, byte).is_some() {

@@ -1,13 +1,14 @@
 // The records of one chain.
 
-ghost use Rattle.std.specs.Prelude.{◌≡◌, ◌≤◌, ◌<◌, IsTrue, List, ℕ, IfOk, IfSome};
-ghost use Rattle.tdb_disk.specs.Count.{HasCause};
+ghost use Rattle.std.specs.Prelude.{◌≡◌, ◌/◌, ◌≤◌, ◌<◌, IsTrue, List, ℕ, IfOk, IfSome, length};
+ghost use Rattle.tdb_disk.specs.Count.{HasCause, RoseUpTo};
 ghost use Rattle.tdb_words.specs.declared.record.TheConstants.{USED};
 ghost use Rattle.tdb_space.specs.Frame.{Looked};
-ghost use Rattle.tdb_space.specs.Chain.{Chain, Member};
+ghost use Rattle.tdb_space.specs.Chain.{Chain, Member, offsets};
 ghost use Rattle.tdb_space.specs.Accepted.{AllFiled};
 ghost use Rattle.tdb_law.specs.Layout.{cells, behind};
 ghost use Rattle.tdb_walk.specs.NextLive.{first_live, live_at, IsWithin};
+ghost use Rattle.tdb_walk.specs.Reads.{records_reads, rest_reads};
 
 use crate::live::Live;
 use tdb_space::{Io, Space, read_listed};
@@ -35,6 +36,7 @@ pub(crate) fn live_from<S: Space>(
     ensures looked { Looked S.Space s.old s.new }
     ensures cause { HasCause (S.faults s.old) (S.faults s.new) result }
     ensures bytes_read { S.bytes_read s.old ≤ S.bytes_read s.new }
+    ensures reads { IsTrue S.tells → RoseUpTo (records_reads (S.form s.old) (S.image s.old) (offsets (S.form s.old).order (S.image s.old) (length (S.image s.old) / 4) first)) (S.bytes_read s.old) (S.bytes_read s.new) }
 {
     let mut at = first;
     for _turn in 0..len / 4 {
@@ -74,6 +76,7 @@ pub(crate) fn live_behind<S: Space>(
     ensures looked { Looked S.Space s.old s.new }
     ensures cause { HasCause (S.faults s.old) (S.faults s.new) result }
     ensures bytes_read { S.bytes_read s.old ≤ S.bytes_read s.new }
+    ensures reads { IsTrue S.tells → RoseUpTo (rest_reads (S.form s.old) (S.image s.old) off) (S.bytes_read s.old) (S.bytes_read s.new) }
 {
     let Some(rec) = read_listed(s, len, off)? else {
         return Ok(None);

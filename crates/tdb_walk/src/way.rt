@@ -1,16 +1,15 @@
 // The way of a move through the chains.
 
-ghost use Rattle.std.specs.Prelude.{◌≡◌, ◌-◌, ◌*◌, ◌≤◌, IsTrue, List, ℕ, IfOk};
+ghost use Rattle.std.specs.Prelude.{◌≡◌, ◌-◌, ◌≤◌, IsTrue, List, ℕ, IfOk};
 ghost use Rattle.tdb_disk.specs.Count.{HasCauseOf, RoseUpTo};
 ghost use Rattle.tdb_space.specs.Frame.{Looked};
 ghost use Rattle.tdb_space.specs.Form.{data_start};
 ghost use Rattle.tdb_space.specs.Extents.{HandPair};
 ghost use Rattle.tdb_space.specs.Accepted.{AcceptWith};
 ghost use Rattle.tdb_law.specs.Layout.Place.{before_chain};
-ghost use Rattle.tdb_walk.specs.Heads.{NoneFilled};
-ghost use Rattle.tdb_walk.specs.declared.standing.Standing.TheVariants.{Before};
 ghost use Rattle.tdb_walk.specs.NextLive.{StandsIn, place_of};
 ghost use Rattle.tdb_walk.specs.Way.{IsWay, MeetsWithin, SameLocks, next_chain};
+ghost use Rattle.tdb_walk.specs.Reads.{chains_reads, move_reads, way_end};
 ghost use Rattle.tdb_walk.specs.declared.refusal.WalkRefusal.TheVariants.{Io};
 
 use crate::heads::first_filled;
@@ -52,8 +51,8 @@ fn pass_chains<S: Space>(
     ensures locks { SameLocks locks.old locks.new }
     ensures looked { Looked S.Space s.old s.new }
     ensures cause { HasCauseOf Io (S.faults s.old) (S.faults s.new) result }
-    ensures empty { IfOk result (λ way. IsTrue S.tells → NoneFilled (S.form s.old) (S.image s.old) from
-        → RoseUpTo (4 * ((S.form s.old).chains - from)) (S.bytes_read s.old) (S.bytes_read s.new)) }
+    ensures reads { IfOk result (λ way. IsTrue S.tells → RoseUpTo (chains_reads (S.form s.old) (S.image s.old) from (way_end (S.form s.old) way - from)) (S.bytes_read s.old) (S.bytes_read s.new)) }
+    ensures reads_at_most { IsTrue S.tells → RoseUpTo (chains_reads (S.form s.old) (S.image s.old) from ((S.form s.old).chains - from)) (S.bytes_read s.old) (S.bytes_read s.new) }
     ensures bytes_read { S.bytes_read s.old ≤ S.bytes_read s.new }
 {
     let chains = s.hash_size();
@@ -98,8 +97,8 @@ pub fn move_on<S: Space>(
     ensures locks { SameLocks locks.old locks.new }
     ensures looked { Looked S.Space s.old s.new }
     ensures cause { HasCauseOf Io (S.faults s.old) (S.faults s.new) result }
-    ensures empty { IfOk result (λ way. IsTrue S.tells → (chain : ℕ) → place ≡ Before chain → NoneFilled (S.form s.old) (S.image s.old) chain
-        → RoseUpTo (4 * ((S.form s.old).chains - chain)) (S.bytes_read s.old) (S.bytes_read s.new)) }
+    ensures reads { IfOk result (λ way. IsTrue S.tells → RoseUpTo (move_reads (S.form s.old) (S.image s.old) place (way_end (S.form s.old) way)) (S.bytes_read s.old) (S.bytes_read s.new)) }
+    ensures reads_at_most { IsTrue S.tells → RoseUpTo (move_reads (S.form s.old) (S.image s.old) place (S.form s.old).chains) (S.bytes_read s.old) (S.bytes_read s.new) }
     ensures bytes_read { S.bytes_read s.old ≤ S.bytes_read s.new }
 {
     let len = s.len()?;

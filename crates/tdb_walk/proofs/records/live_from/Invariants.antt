@@ -4,6 +4,7 @@ use Rattle.tdb_space.specs.Frame.{Looked}
 use Rattle.tdb_space.specs.Chain.{Chain}
 use Rattle.tdb_space.specs.Accepted.{AllFiled}
 use Rattle.tdb_walk.proofs.Left.{Left}
+use Rattle.tdb_walk.proofs.Costs.{OnTheWay}
 use Rattle.tdb_walk.proofs.records.live_from.Given as goal
 
 abbrev pub invariant-loop-turn : goal.invariant-loop-turn
@@ -13,4 +14,5 @@ invariant-loop-turn g l = record {
   looked : Looked g.S.Space l.fn.s l.s;
   faults : g.S.Space.faults l.s ≡ g.S.Space.faults l.fn.s;
   bytes_read : g.S.Space.bytes_read l.fn.s ≤ g.S.Space.bytes_read l.s;
+  reads : IsTrue g.S.Space.tells → OnTheWay (g.S.Space.form l.fn.s) (g.S.Space.image l.fn.s) l.first l._turn l.at (g.S.Space.bytes_read l.fn.s) (g.S.Space.bytes_read l.s);
 }
