@@ -1,12 +1,15 @@
--- How many bytes of a file a walk over all its pairs reads at most.
-use Rattle.std.specs.Prelude.{ℕ, ◌+◌, ◌-◌, ◌≤◌, ◌==◌, if◌then◌else◌, List, max, sum_by}
+-- How many bytes of a file a walk over all its pairs reads at most, and the adding of a pair.
+use Rattle.std.specs.Prelude.{ℕ, ◌+◌, ◌-◌, ◌/◌, ◌≤◌, ◌==◌, if◌then◌else◌, List, max, sum_by}
 use Rattle.std.specs.List.{range_with_len}
 use Rattle.tdb_disk.specs.Count.{RoseUpTo}
 use Rattle.tdb_words.specs.declared.record.Rec.{Rec}
 use Rattle.tdb_words.specs.declared.record.TheConstants.{USED}
 use Rattle.tdb_words.specs.Record.{rec_at}
 use Rattle.tdb_space.specs.Form.{Form}
-use Rattle.tdb_space.specs.Chain.{offsets, chain_of}
+use Rattle.tdb_space.specs.Chain.{offsets, chain_of, free_of}
+use Rattle.tdb_chain.specs.Reads.{write_reads}
+use Rattle.tdb_free.specs.FreeList.{free_pairs}
+use Rattle.tdb_free.specs.Reads.{take_reads}
 use Rattle.tdb_backup.specs.declared.traversal.Traversal.{Traversal}
 
 -- the header of a record with its key and its value, where it is used
@@ -40,3 +43,8 @@ ahead_reads f img t = rest_reads f img t + chains_reads f img t.next_chain (f.ch
 -- a walk came from one place to another: it read no more than was ahead of it there, and isn't any more
 abbrev pub ReadsAlong : Form → List ℕ → Traversal → Traversal → ℕ → ℕ → Type 0
 ReadsAlong f img from to before now = (ahead_reads f img to ≤ ahead_reads f img from) × RoseUpTo (ahead_reads f img from - ahead_reads f img to) before now
+
+-- Of a pair that is added with a record of so many bytes behind its header: what it takes to find room for that, where
+-- the file grows too; the head of its chain; and what the writes of the record take.
+abbrev pub insert_reads : Form → List ℕ → ℕ → ℕ
+insert_reads f img rec_len = take_reads rec_len (free_pairs f img (free_of f img)) + (4 + write_reads (6 + (rec_len + 35) / 4096) (67 + rec_len))

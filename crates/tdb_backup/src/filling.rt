@@ -1,13 +1,14 @@
 // A pair is added to a file that doesn't have its key.
 
 ghost use Rattle.std.specs.Prelude.{◌≡◌, ◌⊎◌, ◌+◌, ◌^◌, ◌<◌, ◌≤◌, [], None, Some, length, IsTrue, IfErr, OnOk};
-ghost use Rattle.tdb_disk.specs.Count.{HasCauseOf};
+ghost use Rattle.tdb_disk.specs.Count.{HasCauseOf, RoseUpTo};
 ghost use Rattle.tdb_space.specs.Frame.{Wrote};
 ghost use Rattle.tdb_space.specs.NewRecord.{rec_len_for};
 ghost use Rattle.tdb_space.specs.Pairs.{map_of};
 ghost use Rattle.tdb_space.specs.Accepted.{AcceptWith};
 ghost use Rattle.tdb_free.specs.Growth.{grown_length};
 ghost use Rattle.tdb_backup.specs.Filling.{Added, Filled, PutFirst, InsertCause};
+ghost use Rattle.tdb_backup.specs.Reads.{insert_reads};
 ghost use Rattle.tdb_backup.specs.declared.refusal.InsertRefusal.TheVariants.{Io};
 
 use crate::refusal::InsertRefusal;
@@ -47,6 +48,8 @@ pub fn insert_new<S: Space>(
     ensures wrote { Wrote S.Space s.old s.new }
     ensures cause { HasCauseOf Io (S.faults s.old) (S.faults s.new) result }
     ensures bytes_read { S.bytes_read s.old ≤ S.bytes_read s.new }
+    ensures reads { IsTrue S.tells → S.size s.old < 2 ^ 32 → AcceptWith (S.form s.old) (S.image s.old) []
+        → RoseUpTo (insert_reads (S.form s.old) (S.image s.old) (rec_len_for (length key.now) (length value.now))) (S.bytes_read s.old) (S.bytes_read s.new) }
 {
     let rec_len = rec_len_for(key.len() as u64, value.len() as u64);
     s.ready((24 + rec_len / 4096) as u32, 256 + rec_len)?;
