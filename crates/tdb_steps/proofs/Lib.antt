@@ -18,6 +18,7 @@ pub mod CommandMade
 pub mod Counted
 pub mod Short
 pub mod Turning
+pub mod Starving
 pub mod Rowed
 pub mod WipeMade
 pub mod Shifts

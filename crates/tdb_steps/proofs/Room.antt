@@ -21,7 +21,7 @@ use Rattle.tdb_law.specs.Commands as Law
 use Rattle.tdb_law.specs.Commands.Command.{OnMap}
 use Rattle.tdb_law.specs.Commands.Reply.{Done, Memory, Full}
 use Rattle.tdb_law.specs.Commands.Turn.{Ends}
-use Rattle.tdb_law.specs.Openers.{Map, has}
+use Rattle.tdb_law.specs.Openers.{Map, Task, has}
 use Rattle.tdb_law.specs.MapCommands.{reply, fetched, map_fills}
 use Rattle.tdb_law.specs.Ends.{store_ends}
 use Rattle.tdb_law.specs.Images.{image_map}
@@ -46,7 +46,8 @@ use Rattle.tdb_words.specs.Record.{rec_at}
 use Rattle.tdb_steps.proofs.FoundOnce.{found_once}
 use Rattle.tdb_steps.proofs.Lawful.{is_command, done_ok}
 use Rattle.tdb_steps.proofs.Turning.{done_alike}
-use Rattle.tdb_steps.specs.Room.{stored_pair, HasNoRoom, FullExactly, FullAtTake}
+use Rattle.tdb_steps.specs.Memory.{may_starve, StarvesOutside}
+use Rattle.tdb_steps.specs.Room.{stored_pair, HasNoRoom, FullExactly, FullAtTake, FullOutside, IsAppend}
 
 -- a file grows by no less than is needed
 pub grown_more : (len need limit to : ℕ) → grown_length len need limit ≡ Some to → limit < len + need → ⊥
@@ -393,3 +394,50 @@ pub full_at_take : (f : Form) (a b : List ℕ) (d e : Doing) (n limit : ℕ) (st
     → FullAtTake f a limit (record { command = OnMap (command_of d.command); steps = n }) (turn_of turn)
 full_at_take f a b d e n limit stood_on others turn is A K row map R =
     full_by f a b d.chain d.seqnum d.whole n limit stood_on others e turn d.command d.stage is A K row (map (image_map f a) (λ k. image_answers f a k)) R
+
+-- Outside a transaction neither a take nor a look but that of an append ends for want of memory.
+abbrev Starves : Form → Law.Command → ℕ → Type 0
+Starves f c n = (b : Law.MapCommand) → c ≡ OnMap b → may_starve f b n ≡ true
+
+take_fed : (f : Form) (c : Law.Command) (n : ℕ) (map : List ℕ → Option (List ℕ)) (p : List ℕ × List ℕ) → stored_pair c map ≡ Some p → n ≡ 3 → Starves f c n → ⊥
+take_fed f (OnMap (Law.MapCommand.Store k v)) n map p stores three S = let e = subst (λ i. may_starve f (Law.MapCommand.Store k v) i ≡ true) three (S (Law.MapCommand.Store k v) refl) in cc e
+take_fed f (OnMap (Law.MapCommand.Insert k v)) n map p stores three S = let e = subst (λ i. may_starve f (Law.MapCommand.Insert k v) i ≡ true) three (S (Law.MapCommand.Insert k v) refl) in cc e
+take_fed f (OnMap (Law.MapCommand.Modify k v)) n map p stores three S = let e = subst (λ i. may_starve f (Law.MapCommand.Modify k v) i ≡ true) three (S (Law.MapCommand.Modify k v) refl) in cc e
+take_fed f (OnMap (Law.MapCommand.Append k v)) n map p stores three S = let e = subst (λ i. may_starve f (Law.MapCommand.Append k v) i ≡ true) three (S (Law.MapCommand.Append k v) refl) in cc e
+take_fed f (OnMap (Law.MapCommand.Fetch k)) n map p stores three S = cc stores
+take_fed f (OnMap (Law.MapCommand.Has k)) n map p stores three S = cc stores
+take_fed f (OnMap (Law.MapCommand.Delete k)) n map p stores three S = cc stores
+take_fed f (OnMap Law.MapCommand.Wipe) n map p stores three S = cc stores
+take_fed f (OnMap Law.MapCommand.Check) n map p stores three S = cc stores
+take_fed f (Law.Command.OnLocks l) n map p stores three S = cc stores
+take_fed f Law.Command.Seqnum n map p stores three S = cc stores
+take_fed f (Law.Command.OnGroup h) n map p stores three S = cc stores
+take_fed f (Law.Command.OnWalk w) n map p stores three S = cc stores
+
+look_fed : (f : Form) (c : Law.Command) (n : ℕ) (map : List ℕ → Option (List ℕ)) (p : List ℕ × List ℕ) → stored_pair c map ≡ Some p → n ≡ 1 → Starves f c n → IsAppend c
+look_fed f (OnMap (Law.MapCommand.Store k v)) n map p stores one S = let e = subst (λ i. may_starve f (Law.MapCommand.Store k v) i ≡ true) one (S (Law.MapCommand.Store k v) refl) in absurd (cc e)
+look_fed f (OnMap (Law.MapCommand.Insert k v)) n map p stores one S = let e = subst (λ i. may_starve f (Law.MapCommand.Insert k v) i ≡ true) one (S (Law.MapCommand.Insert k v) refl) in absurd (cc e)
+look_fed f (OnMap (Law.MapCommand.Modify k v)) n map p stores one S = let e = subst (λ i. may_starve f (Law.MapCommand.Modify k v) i ≡ true) one (S (Law.MapCommand.Modify k v) refl) in absurd (cc e)
+look_fed f (OnMap (Law.MapCommand.Append k v)) n map p stores one S = tt
+look_fed f (OnMap (Law.MapCommand.Fetch k)) n map p stores one S = absurd (cc stores)
+look_fed f (OnMap (Law.MapCommand.Has k)) n map p stores one S = absurd (cc stores)
+look_fed f (OnMap (Law.MapCommand.Delete k)) n map p stores one S = absurd (cc stores)
+look_fed f (OnMap Law.MapCommand.Wipe) n map p stores one S = absurd (cc stores)
+look_fed f (OnMap Law.MapCommand.Check) n map p stores one S = absurd (cc stores)
+look_fed f (Law.Command.OnLocks l) n map p stores one S = absurd (cc stores)
+look_fed f Law.Command.Seqnum n map p stores one S = absurd (cc stores)
+look_fed f (Law.Command.OnGroup h) n map p stores one S = absurd (cc stores)
+look_fed f (Law.Command.OnWalk w) n map p stores one S = absurd (cc stores)
+
+-- So outside one a turn ends with Full just where there is no room.
+pub full_outside : (f : Form) (a : List ℕ) (limit : ℕ) (t : Task) (turn : Law.Turn) → FullAtTake f a limit t turn → StarvesOutside f t turn → FullOutside f a limit t turn
+full_outside f a limit t turn F S = record {
+  only = λ len need e. let three = F.only len need e in (three, (F.takes three).only len need e);
+  takes = λ three len need N. elim ((F.takes three).always len need N) [
+    | inl full ↦ full
+    | inr none ↦ absurd (take_fed f t.command t.steps (map_of f a) (N.key, N.value) N.stores three (λ b is. S b is none))
+  ];
+  looks = λ one len need N r e.
+      let wants : r ≡ Memory = F.looks one len need N r e in
+      (wants, look_fed f t.command t.steps (map_of f a) (N.key, N.value) N.stores one (λ b is. S b is (e ∙ ap Ends wants)));
+}

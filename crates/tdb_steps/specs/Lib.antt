@@ -1,6 +1,7 @@
 pub mod Asked
 pub mod Stages
 pub mod Reads
+pub mod Memory
 pub mod Walks
 pub mod Turns
 pub mod Wiped

@@ -47,9 +47,22 @@ pub record FullExactly (f : Form) (img : List ℕ) (limit : ℕ) (c : Command) (
   pub only : (len need : ℕ) → turn ≡ Ends (Full len need) → HasNoRoom f img limit c len need
   pub always : (len need : ℕ) → HasNoRoom f img limit c len need → (turn ≡ Ends (Full len need)) ⊎ (turn ≡ Ends Memory)
 
--- Outside a transaction a command that stores takes its record after three steps, and ends with Full at no other turn.
--- Its look, after one step, ends no command for which there is no room, unless memory is wanting.
+-- A command that stores takes its record after three steps, and ends with Full at no other turn. Its look, after one
+-- step, ends no command for which there is no room, unless memory is wanting.
 pub record FullAtTake (f : Form) (img : List ℕ) (limit : ℕ) (t : Task) (turn : Turn) : Type 0 where
   pub only : (len need : ℕ) → turn ≡ Ends (Full len need) → t.steps ≡ 3
   pub takes : t.steps ≡ 3 → FullExactly f img limit t.command turn
   pub looks : t.steps ≡ 1 → (len need : ℕ) → HasNoRoom f img limit t.command len need → (r : Reply) → turn ≡ Ends r → r ≡ Memory
+
+-- a command that joins bytes to those of its key
+abbrev pub IsAppend : Command → Type 0
+IsAppend (OnMap (Append k v)) = Unit {0}
+IsAppend c = ⊥
+
+-- Outside a transaction a turn ends with Full just where a command that stores takes its record, after three steps, and
+-- the image has no room for it, with these numbers. Its look, after one step, ends no command for which there is no
+-- room, but an append for which memory is wanting.
+pub record FullOutside (f : Form) (img : List ℕ) (limit : ℕ) (t : Task) (turn : Turn) : Type 0 where
+  pub only : (len need : ℕ) → turn ≡ Ends (Full len need) → (t.steps ≡ 3) × HasNoRoom f img limit t.command len need
+  pub takes : t.steps ≡ 3 → (len need : ℕ) → HasNoRoom f img limit t.command len need → turn ≡ Ends (Full len need)
+  pub looks : t.steps ≡ 1 → (len need : ℕ) → HasNoRoom f img limit t.command len need → (r : Reply) → turn ≡ Ends r → (r ≡ Memory) × IsAppend t.command

@@ -7,6 +7,7 @@ ghost use Rattle.tdb_steps.specs.Stages.{Leads, IsIdle, CanCount};
 ghost use Rattle.tdb_law.specs.MapCommands.{map_changes};
 ghost use Rattle.tdb_steps.specs.PlainCommands.{command_of};
 ghost use Rattle.tdb_steps.specs.Order.{InOrder};
+ghost use Rattle.tdb_steps.specs.Memory.{StarvesRightly};
 ghost use Rattle.tdb_steps.specs.Machines.{IsShort, IsShortWhole, IsFit, CommandMakes, CommandStops, CommandRightly};
 ghost use Rattle.tdb_steps.specs.Reads.{TurnReads, look_reads};
 ghost use Rattle.tdb_space.specs.Extents.{HandPair};
@@ -44,6 +45,7 @@ pub(crate) fn act<S: Space>(
     ensures rightly { IfOk result (λ next. IsTrue S.tells → S.size s.old < 2 ^ 32
         → CommandRightly (S.form s.old) (S.image s.old) (S.image s.new) command.now whole.old limit stood_on.now stage next) }
     ensures order { IfOk result (InOrder command.now stage) }
+    ensures starves { IfOk result (StarvesRightly (S.spare s.old) command.now stage) }
     ensures fit { IfOk result (Leads (λ then. IsFit command.now whole.new then (S.size s.new) (S.spare s.new))) }
     ensures stopped { OnErr result (IsTrue S.tells → S.size s.old < 2 ^ 32 → CommandStops (S.form s.old) (S.image s.old) (S.image s.new) command.now stage) }
     ensures whole { IsShortWhole whole.new }

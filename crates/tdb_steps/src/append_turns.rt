@@ -8,6 +8,7 @@ ghost use Rattle.tdb_steps.specs.Asked.{stores};
 ghost use Rattle.tdb_steps.specs.Stages.{OfStore, Leads, IsIdle, CanCount};
 ghost use Rattle.tdb_steps.specs.Turns.{Makes, Stops, AppendMakes, StoresRightly, AppendsRightly};
 ghost use Rattle.tdb_steps.specs.Order.{StoreOrder};
+ghost use Rattle.tdb_steps.specs.Memory.{StarvesBounded, StarvesRightly};
 ghost use Rattle.tdb_steps.specs.declared.flag.Flag.TheVariants as Flags;
 ghost use Rattle.tdb_steps.specs.declared.stage.Stage.TheVariants as Stage;
 ghost use Rattle.tdb_steps.specs.Reads.{TurnReads, look_reads};
@@ -44,6 +45,7 @@ fn store_joined<S: Space>(
     ensures rightly { IfOk result (λ next. IsTrue S.tells → S.size s.old < 2 ^ 32
         → StoresRightly (S.form s.old) (S.image s.old) (S.image s.new) key.now (length (unwrap_or whole.now more.now)) (rec_len_for (length key.now) (length (unwrap_or whole.now more.now))) limit stood_on.now stage next) }
     ensures order { IfOk result (StoreOrder stage) }
+    ensures starves { IfOk result (StarvesBounded (S.spare s.old)) }
     ensures room { IfOk result (CanCount (S.spare s.new)) }
     ensures leads { IfOk result (Leads (λ then. OfStore (length key.now + length (unwrap_or whole.now more.now)) then (S.size s.new) (S.spare s.new))) }
     ensures stopped { OnErr result (IsTrue S.tells → S.size s.old < 2 ^ 32 → Stops (S.form s.old) (S.image s.old) (S.image s.new) key.now stage) }
@@ -71,7 +73,8 @@ fn store_joined<S: Space>(
 
 /// A turn of an append, in a file that may grow to `limit` bytes. `whole` has the bytes that its look has joined: it is
 /// set by the second turn, and has to be the same in those after it. The reply is `Ok`, `Full` where no free record is
-/// long enough and the file can't grow, or `Memory` where that is wanting before the first write.
+/// long enough and the file can't grow, or `Memory` where that is wanting before the first write; over a disk only the
+/// second turn wants it.
 ///
 /// The second turn is that of `look_to_append`; all others are those of a store of the joined bytes, or of those to be
 /// appended where the key wasn't there, with the flag `Replace`. `Io` where the disk failed: then the command is given
@@ -97,6 +100,7 @@ pub fn append_turn<S: Space>(
     ensures rightly { IfOk result (λ next. IsTrue S.tells → S.size s.old < 2 ^ 32
         → AppendsRightly (S.form s.old) (S.image s.old) (S.image s.new) key.now more.now whole.old limit stood_on.now stage next) }
     ensures order { IfOk result (StoreOrder stage) }
+    ensures starves { IfOk result (StarvesRightly (S.spare s.old) (Append key.now more.now) stage) }
     ensures room { IfOk result (CanCount (S.spare s.new)) }
     ensures leads { IfOk result (Leads (λ then. OfStore (length key.now + length (unwrap_or whole.new more.now)) then (S.size s.new) (S.spare s.new))) }
     ensures short { length (unwrap_or whole.new more.now) < 2 ^ 33 }

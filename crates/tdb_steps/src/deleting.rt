@@ -7,6 +7,7 @@ ghost use Rattle.tdb_steps.specs.Asked.{deletes};
 ghost use Rattle.tdb_steps.specs.Stages.{OfDelete, Leads, IsIdle, CanCount};
 ghost use Rattle.tdb_steps.specs.Turns.{Makes, Stops, DeletesRightly};
 ghost use Rattle.tdb_steps.specs.Order.{DeleteOrder};
+ghost use Rattle.tdb_steps.specs.Memory.{StarvesBounded};
 ghost use Rattle.tdb_steps.specs.Reads.{TurnReads, look_reads};
 ghost use Rattle.tdb_steps.specs.declared.plain.Plain.TheVariants.{Delete};
 
@@ -17,7 +18,8 @@ use crate::unlinking::unlink_found;
 use tdb_locks::{Reply, Spots};
 use tdb_space::{Io, Space};
 
-/// A turn of a delete. The reply is `Ok`, `KeyMissing`, or `Memory` where that is wanting before the first write.
+/// A turn of a delete. The reply is `Ok`, `KeyMissing`, or `Memory` where that is wanting before the first write, as
+/// it never is over a disk.
 ///
 /// The first turn stands for the lock of the key's chain, the third for that of the free list, and the last lets go of
 /// both: these make no call on the file. The second looks the key up, and marks its record as dead where a cursor
@@ -35,6 +37,7 @@ pub fn delete_turn<S: Space>(
     ensures made { IfOk result (λ next. IsTrue S.tells → S.size s.old < 2 ^ 32 → Makes (S.form s.old) (S.image s.old) (S.image s.new) key.now deletes stage next) }
     ensures rightly { IfOk result (λ next. IsTrue S.tells → S.size s.old < 2 ^ 32 → DeletesRightly (S.form s.old) (S.image s.old) (S.image s.new) key.now stood_on.now stage next) }
     ensures order { IfOk result (DeleteOrder stage) }
+    ensures starves { IfOk result (StarvesBounded (S.spare s.old)) }
     ensures room { IfOk result (CanCount (S.spare s.new)) }
     ensures leads { IfOk result (Leads (λ then. OfDelete then (S.size s.new) (S.spare s.new))) }
     ensures stopped { OnErr result (IsTrue S.tells → S.size s.old < 2 ^ 32 → Stops (S.form s.old) (S.image s.old) (S.image s.new) key.now stage) }

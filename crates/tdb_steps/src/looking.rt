@@ -10,6 +10,7 @@ ghost use Rattle.tdb_steps.specs.Asked.{stores, deletes};
 ghost use Rattle.tdb_steps.specs.Stages.{IsKnown, OfStore, OfDelete, Leads, IsEnd, CanCount};
 ghost use Rattle.tdb_steps.specs.Turns.{Makes, TurnMade, TurnStopped, UpdatesRightly, MarksRightly, Finds};
 ghost use Rattle.tdb_steps.specs.Order.{LooksOn};
+ghost use Rattle.tdb_steps.specs.Memory.{StarvesBounded};
 ghost use Rattle.tdb_steps.specs.declared.flag.Flag.{Flag};
 ghost use Rattle.tdb_steps.specs.declared.stage.Stage.TheVariants as Stage;
 ghost use Rattle.tdb_chain.specs.Reads.{find_reads, write_reads};
@@ -29,6 +30,7 @@ pub(crate) fn update_found<S: Space>(s: &mut S, place: Place, value: &[u8]) -> R
         → TurnMade (S.form s.old) (S.image s.old) (S.image s.new) key (stores flag value.now) Stage.Chained next others) }
     ensures rightly { IfOk result (UpdatesRightly (S.image s.old) (S.image s.new) (length value.now) (Some place)) }
     ensures order { IfOk result LooksOn }
+    ensures starves { IfOk result (StarvesBounded (S.spare s.old)) }
     ensures room { IfOk result (CanCount (S.spare s.new)) }
     ensures leads { (n : ℕ) → IfOk result (Leads (λ stage. OfStore n stage (S.size s.new) (S.spare s.new))) }
     ensures stopped { OnErr result (IsTrue S.tells → (key : List ℕ) (others : List HandPair) → AcceptWith (S.form s.old) (S.image s.old) others → HoldsKey (S.form s.old) (S.image s.old) key place
@@ -57,6 +59,7 @@ fn mark_found<S: Space>(s: &mut S, place: Place) -> Result<Next, Io>
         → TurnMade (S.form s.old) (S.image s.old) (S.image s.new) key deletes Stage.Chained next others) }
     ensures done { IfOk result IsEnd }
     ensures order { IfOk result LooksOn }
+    ensures starves { IfOk result (StarvesBounded (S.spare s.old)) }
     ensures room { IfOk result (CanCount (S.spare s.new)) }
     ensures stopped { OnErr result (IsTrue S.tells → (key : List ℕ) (others : List HandPair) → AcceptWith (S.form s.old) (S.image s.old) others → HoldsKey (S.form s.old) (S.image s.old) key place
         → TurnStopped (S.form s.old) (S.image s.old) (S.image s.new) key []) }
@@ -86,6 +89,7 @@ pub(crate) fn look_to_store<S: Space>(
     ensures made { IfOk result (λ next. IsTrue S.tells → Makes (S.form s.old) (S.image s.old) (S.image s.new) key.now (stores flag value.now) Stage.Chained next) }
     ensures rightly { IfOk result (λ next. IsTrue S.tells → Finds (S.form s.old) (S.image s.old) key.now (λ place. UpdatesRightly (S.image s.old) (S.image s.new) (length value.now) place next)) }
     ensures order { IfOk result LooksOn }
+    ensures starves { IfOk result (StarvesBounded (S.spare s.old)) }
     ensures room { IfOk result (CanCount (S.spare s.new)) }
     ensures leads { (n : ℕ) → IfOk result (Leads (λ stage. OfStore n stage (S.size s.new) (S.spare s.new))) }
     ensures stopped { OnErr result (IsTrue S.tells → (others : List HandPair) → AcceptWith (S.form s.old) (S.image s.old) others → TurnStopped (S.form s.old) (S.image s.old) (S.image s.new) key.now []) }
@@ -115,6 +119,7 @@ pub(crate) fn look_to_delete<S: Space>(s: &mut S, key: &[u8], stood_on: &Spots) 
     ensures made { IfOk result (λ next. IsTrue S.tells → Makes (S.form s.old) (S.image s.old) (S.image s.new) key.now deletes Stage.Chained next) }
     ensures rightly { IfOk result (λ next. IsTrue S.tells → Finds (S.form s.old) (S.image s.old) key.now (λ place. MarksRightly stood_on.now place next)) }
     ensures order { IfOk result LooksOn }
+    ensures starves { IfOk result (StarvesBounded (S.spare s.old)) }
     ensures room { IfOk result (CanCount (S.spare s.new)) }
     ensures leads { IfOk result (Leads (λ stage. OfDelete stage (S.size s.new) (S.spare s.new))) }
     ensures stopped { OnErr result (IsTrue S.tells → (others : List HandPair) → AcceptWith (S.form s.old) (S.image s.old) others → TurnStopped (S.form s.old) (S.image s.old) (S.image s.new) key.now []) }

@@ -5,11 +5,14 @@ ghost use Rattle.tdb_disk.specs.Count.{HasCause};
 ghost use Rattle.tdb_space.specs.Form.{form_in};
 ghost use Rattle.tdb_space.specs.Pairs.{home};
 ghost use Rattle.tdb_space.specs.Frame.{Looked, Wrote};
+ghost use Rattle.tdb_space.specs.Spare.{without_bound};
 ghost use Rattle.tdb_space.specs.Extents.{HandPair};
 ghost use Rattle.tdb_space.specs.Accepted.{AcceptWith};
+ghost use Rattle.tdb_law.specs.Commands.Command.{OnMap};
 ghost use Rattle.tdb_law.specs.MapCommands.{map_changes};
 ghost use Rattle.tdb_steps.specs.Stages.{hands_in, MayBeOut, IsIdle};
 ghost use Rattle.tdb_steps.specs.Order.{IsAfter};
+ghost use Rattle.tdb_steps.specs.Memory.{TakesValue, StarvesOutside};
 ghost use Rattle.tdb_steps.specs.PlainCommands.{key_of, command_of, turn_of};
 ghost use Rattle.tdb_steps.specs.LockRows.{rows_of, row_at, locks_in, AllStandAlone, AreLetGo};
 ghost use Rattle.tdb_steps.specs.Holdings.{HoldsBefore, LocksTurned};
@@ -152,10 +155,11 @@ impl Machine {
     ///
     /// It is a step, or the reply: then the locks are still held, and the machine is before its first turn. `Full` is
     /// the reply of a store and of an append exactly where no free record is long enough and the file can't grow so
-    /// far, and it says how long the file is and how many bytes were needed. With `Ok` the sequence number is raised
-    /// where the machine counts: the room for that was made before the first write. `Io` where the disk failed: then
-    /// the command has given up the record that it held, and where only the number was left to raise, the change is
-    /// made.
+    /// far, and it says how long the file is and how many bytes were needed. `Memory` where that is wanting, before the
+    /// first write: over a disk only at the look of a fetch and of an append, for the value. With `Ok` the sequence
+    /// number is raised where the machine counts: the room for that was made before the first write. `Io` where the
+    /// disk failed: then the command has given up the record that it held, and where only the number was left to raise,
+    /// the change is made.
     pub fn act_turn<S: Space>(
         &mut self,
         alloc: Global,
@@ -167,6 +171,7 @@ impl Machine {
         requires limit { limit ≤ 4294963200 }
         requires fits { Fits self.old (S.size s.old) (S.spare s.old) }
         ensures led { IfOk result (λ turn. ActLed self.old self.new turn) }
+        ensures starves { IfOk result (λ turn. turn ≡ Turn.Done Reply.Memory → S.spare s.old ≡ without_bound → TakesValue self.old.command self.old.stage) }
         ensures made { IfOk result (λ turn. IsTrue S.tells → S.size s.old < 2 ^ 32 → (n : ℕ) (others : List HandPair) → IsAfter self.old.command self.old.stage n
             → MayBeOut self.old.stage others → AcceptWith (S.form s.old) (S.image s.old) (hands_in self.old.stage ++ others) → DoingKnows (S.form s.old) (S.image s.old) self.old
             → MachineTurned (S.form s.old) (S.image s.old) (S.image s.new) self.old self.new n (turn_of turn) others) }
@@ -219,11 +224,12 @@ impl Machine {
     /// A turn takes a lock of the command's row, or looks or changes the file. `Blocked` where another opener's lock
     /// conflicts: nothing changes then, and the next turn tries the same again. A lock that the explicit ones cover is
     /// neither taken nor let go, and its turn is a step all the same. With its reply the command lets go of what it
-    /// took, for which it asks for no memory. The reply is `Memory` where that is wanting, before any change, and
-    /// `Full` exactly where no free record is long enough for the value and the file can't grow up to the limit. With
-    /// the reply `Ok` the sequence number is raised, where the machine counts its change; no lock is taken for that.
-    /// `Io` where the disk failed: then the command has given up the record that it held, and it keeps its locks. After
-    /// a reply or `Io` the machine is before its first turn.
+    /// took, for which it asks for no memory. The reply is `Memory` where that is wanting, before any change: over a
+    /// disk only where the turn takes a lock, or the value that a fetch tells or an append joins. It is `Full` exactly
+    /// where no free record is long enough for the value and the file can't grow up to the limit. With the reply `Ok`
+    /// the sequence number is raised, where the machine counts its change; no lock is taken for that. `Io` where the
+    /// disk failed: then the command has given up the record that it held, and it keeps its locks. After a reply or
+    /// `Io` the machine is before its first turn.
     ///
     /// A wipe is on no key: once all records are locked it may change any chain. Where it has both its locks, no hand
     /// of another command may be out.
@@ -251,6 +257,8 @@ impl Machine {
             → ActRightly (S.form s.old) (S.image s.old) (S.image s.new) self.old self.new limit stood_on.now turn) }
         ensures row { IfOk result (λ turn. (n : ℕ) → IsAfter self.old.command self.old.stage n → MapRow (command_of self.old.command) n (turn_of turn)) }
         ensures leaves { IfOk result (λ turn. (n : ℕ) → IsAfter self.old.command self.old.stage n → Leaves self.old self.new n (turn_of turn)) }
+        ensures starves { IfOk result (λ turn. S.spare s.old ≡ without_bound → (n : ℕ) → IsAfter self.old.command self.old.stage n
+            → StarvesOutside (S.form s.old) (record { command = OnMap (command_of self.old.command); steps = n }) (turn_of turn)) }
         ensures locks { IfOk result (λ turn. (n : ℕ) (kept : ℕ → ℕ) → IsAfter self.old.command self.old.stage n
             → HoldsBefore held.now kept owner n locks.old (rows_of self.old.command self.old.chain)
             → LocksTurned (locks_in (rows_of self.old.command self.old.chain)) kept owner n locks.old locks.new (turn_of turn)) }

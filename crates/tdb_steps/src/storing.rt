@@ -8,6 +8,7 @@ ghost use Rattle.tdb_steps.specs.Asked.{stores};
 ghost use Rattle.tdb_steps.specs.Stages.{OfStore, Leads, IsIdle, CanCount};
 ghost use Rattle.tdb_steps.specs.Turns.{Makes, Stops, StoresRightly};
 ghost use Rattle.tdb_steps.specs.Order.{StoreOrder};
+ghost use Rattle.tdb_steps.specs.Memory.{StarvesBounded};
 ghost use Rattle.tdb_steps.specs.Reads.{TurnReads, look_reads};
 ghost use Rattle.tdb_steps.specs.declared.plain.Plain.TheVariants.{Store};
 
@@ -22,7 +23,7 @@ use tdb_space::{Io, Space};
 
 /// A turn of a store, in a file that may grow to `limit` bytes. The reply is `Ok`, `KeyThere` or `KeyMissing` as the
 /// flag says, `Full` where no free record is long enough and the file can't grow, or `Memory` where that is wanting
-/// before the first write.
+/// before the first write, as it never is over a disk.
 ///
 /// The first turn stands for the lock of the key's chain, the third for that of the free list, and the last lets go of
 /// both: these make no call on the file. The second looks the key up; where the value fits into the record that is
@@ -48,6 +49,7 @@ pub fn store_turn<S: Space>(
     ensures rightly { IfOk result (λ next. IsTrue S.tells → S.size s.old < 2 ^ 32
         → StoresRightly (S.form s.old) (S.image s.old) (S.image s.new) key.now (length value.now) (rec_len_for (length key.now) (length value.now)) limit stood_on.now stage next) }
     ensures order { IfOk result (StoreOrder stage) }
+    ensures starves { IfOk result (StarvesBounded (S.spare s.old)) }
     ensures room { IfOk result (CanCount (S.spare s.new)) }
     ensures leads { IfOk result (Leads (λ then. OfStore (length key.now + length value.now) then (S.size s.new) (S.spare s.new))) }
     ensures stopped { OnErr result (IsTrue S.tells → S.size s.old < 2 ^ 32 → Stops (S.form s.old) (S.image s.old) (S.image s.new) key.now stage) }

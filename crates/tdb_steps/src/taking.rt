@@ -11,6 +11,7 @@ ghost use Rattle.tdb_steps.specs.Asked.{Asked};
 ghost use Rattle.tdb_steps.specs.Stages.{OfStore, Leads};
 ghost use Rattle.tdb_steps.specs.Turns.{Makes, TurnStopped, TakesRightly};
 ghost use Rattle.tdb_steps.specs.Order.{TakesOn};
+ghost use Rattle.tdb_steps.specs.Memory.{StarvesBounded};
 ghost use Rattle.tdb_steps.specs.declared.stage.Stage.TheVariants as Stage;
 
 use crate::stage::{Next, Stage};
@@ -21,8 +22,9 @@ use tdb_space::{Io, Space, rec_len_for};
 
 /// Takes a record for a key and a value of these lengths from the free list, where the file may grow up to a limit.
 ///
-/// Before, it makes room for all that the command still has to write; the reply is `Memory` where that is wanting, and
-/// then nothing is written. The reply is `Full` where no free record is long enough and the file can't grow.
+/// Before, it makes room for all that the command still has to write; the reply is `Memory` where that is wanting, as
+/// it never is over a disk, and then nothing is written. The reply is `Full` where no free record is long enough and
+/// the file can't grow.
 pub(crate) fn take_new<S: Space>(
     s: &mut S,
     key_len: usize,
@@ -39,6 +41,7 @@ pub(crate) fn take_new<S: Space>(
     ensures rightly { IfOk result (λ next. IsTrue S.tells → S.size s.old < 2 ^ 32
         → TakesRightly (S.form s.old) (S.image s.old) (S.image s.new) (rec_len_for key_len value_len) limit found next) }
     ensures order { IfOk result TakesOn }
+    ensures starves { IfOk result (StarvesBounded (S.spare s.old)) }
     ensures leads { IfOk result (Leads (λ stage. OfStore (key_len + value_len) stage (S.size s.new) (S.spare s.new))) }
     ensures stopped { OnErr result (IsTrue S.tells → S.size s.old < 2 ^ 32 → (key : List ℕ) (others : List HandPair) → AcceptWith (S.form s.old) (S.image s.old) others
         → TurnStopped (S.form s.old) (S.image s.old) (S.image s.new) key []) }

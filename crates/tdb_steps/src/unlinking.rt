@@ -11,6 +11,7 @@ ghost use Rattle.tdb_locks.specs.declared.turn.Reply.TheVariants as Reply;
 ghost use Rattle.tdb_steps.specs.Asked.{deletes};
 ghost use Rattle.tdb_steps.specs.Stages.{OfDelete, Leads};
 ghost use Rattle.tdb_steps.specs.Turns.{Makes, TurnStopped};
+ghost use Rattle.tdb_steps.specs.Memory.{StarvesBounded};
 ghost use Rattle.tdb_steps.specs.declared.stage.Stage.TheVariants as Stage;
 ghost use Rattle.tdb_steps.specs.declared.stage.Next.TheVariants as Next;
 
@@ -21,11 +22,13 @@ use tdb_space::{Io, Space};
 
 /// Takes the record that was found out of its chain. It has to be given back then.
 ///
-/// Before, it makes room for that too; the reply is `Memory` where that is wanting, and then nothing is written.
+/// Before, it makes room for that too; the reply is `Memory` where that is wanting, as it never is over a disk, and
+/// then nothing is written.
 pub(crate) fn unlink_found<S: Space>(s: &mut S, place: Place) -> Result<Next, Io>
     requires within { StandsWithin place (S.size s.old) }
     ensures made { IfOk result (λ next. IsTrue S.tells → (key : List ℕ)
         → Makes (S.form s.old) (S.image s.old) (S.image s.new) key deletes (Stage.Listed (Some place)) next) }
+    ensures starves { IfOk result (StarvesBounded (S.spare s.old)) }
     ensures changed { IfOk result (λ next. (next ≡ Next.Done Reply.Memory) ⊎ (next ≡ Next.Step (Stage.Changed (hand_at place)))) }
     ensures leads { IfOk result (Leads (λ stage. OfDelete stage (S.size s.new) (S.spare s.new))) }
     ensures stopped { OnErr result (IsTrue S.tells → (key : List ℕ) (others : List HandPair) → AcceptWith (S.form s.old) (S.image s.old) others → HoldsKey (S.form s.old) (S.image s.old) key place

@@ -9,6 +9,7 @@ ghost use Rattle.tdb_steps.specs.Wiped.{WipeStopped};
 ghost use Rattle.tdb_steps.specs.Stages.{hands_in, MayBeOut, OfWipe, Leads, IsIdle, CanCount};
 ghost use Rattle.tdb_steps.specs.Turns.{WipeMakes, WipesRightly};
 ghost use Rattle.tdb_steps.specs.Order.{WipeOrder};
+ghost use Rattle.tdb_steps.specs.Memory.{StarvesBounded};
 ghost use Rattle.tdb_steps.specs.declared.stage.Stage.TheVariants as Stage;
 ghost use Rattle.tdb_steps.specs.declared.stage.WipeStage.TheVariants as WipeStage;
 ghost use Rattle.tdb_steps.specs.Reads.{TurnReads};
@@ -18,7 +19,8 @@ use crate::wiping::{wipe, wipe_bytes, wipe_writes};
 use tdb_locks::Reply;
 use tdb_space::{Io, Space};
 
-/// A turn of a wipe. The reply is `Ok`, or `Memory` where that is wanting before the first write.
+/// A turn of a wipe. The reply is `Ok`, or `Memory` where that is wanting before the first write, as it never is over
+/// a disk.
 ///
 /// The first turn stands for the lock of all records, the second for that of the free list, and the last lets go of
 /// both: these make no call on the file. The third makes room for all writes of the wipe and one of the sequence
@@ -30,6 +32,7 @@ pub fn wipe_turn<S: Space>(stage: Stage, s: &mut S) -> Result<Next, Io>
     ensures stopped { OnErr result (IsTrue S.tells → (others : List HandPair) → MayBeOut stage others → AcceptWith (S.form s.old) (S.image s.old) (hands_in stage ++ others)
         → WipeStopped (S.form s.old) (S.image s.old) (S.image s.new)) }
     ensures order { IfOk result (WipeOrder stage) }
+    ensures starves { IfOk result (StarvesBounded (S.spare s.old)) }
     ensures leads { IfOk result (Leads (λ then. OfWipe then (S.spare s.new))) }
     ensures room { IfOk result (CanCount (S.spare s.new)) }
     ensures idle { IsIdle stage → Looked S.Space s.old s.new }
@@ -61,6 +64,7 @@ fn wipe_all<S: Space>(s: &mut S) -> Result<Next, Io>
     ensures rightly { IfOk result (λ next. IsTrue S.tells → S.size s.old < 2 ^ 32 → WipesRightly (S.form s.old) (S.image s.old) (S.image s.new) (Stage.Wiping WipeStage.FreeList) next) }
     ensures stopped { OnErr result (IsTrue S.tells → AcceptWith (S.form s.old) (S.image s.old) [] → WipeStopped (S.form s.old) (S.image s.old) (S.image s.new)) }
     ensures order { IfOk result (WipeOrder (Stage.Wiping WipeStage.FreeList)) }
+    ensures starves { IfOk result (StarvesBounded (S.spare s.old)) }
     ensures leads { IfOk result (Leads (λ then. OfWipe then (S.spare s.new))) }
     ensures size { S.size s.new ≡ S.size s.old }
     ensures wrote { Wrote S.Space s.old s.new }

@@ -13,6 +13,9 @@ use Rattle.tdb_space.specs.Accepted.{AcceptWith}
 use Rattle.tdb_space.proofs.Results.{on_err}
 use Rattle.tdb_steps.specs.Stages.{hands_in, Knows, MayBeOut}
 use Rattle.tdb_steps.proofs.Stopped.{stopped_nothing}
+use Rattle.tdb_steps.specs.Order.{AnswersHas, LookOrder}
+use Rattle.tdb_steps.specs.Memory.{StarvesBounded, StarvesRightly}
+use Rattle.tdb_steps.proofs.Starving.{fetch_starves, has_starves, bounded_starves}
 use Rattle.tdb_steps.proofs.acting.act.Goals as goal
 
 pub returns-in-Fetch-clause-made : goal.returns-in-Fetch-clause-made
@@ -223,3 +226,34 @@ returns-in-Delete-clause-reads g c told hands A =
 pub returns-in-Wipe-clause-reads : goal.returns-in-Wipe-clause-reads
 returns-in-Wipe-clause-reads g c told hands A =
     subst (λ command. TurnReads (look_reads (g.S.Space.form c.args.s.now) (g.S.Space.image c.args.s.now) command) 0 c.args.stage (g.S.Space.bytes_read c.args.s.now) (g.S.Space.bytes_read c.wipe_turn.new.s)) (sym c.in-Wipe.is) c.wipe_turn.ensures.reads
+
+-- over a disk it ends for want of memory only where it takes a value
+pub returns-in-Fetch-clause-starves : goal.returns-in-Fetch-clause-starves
+returns-in-Fetch-clause-starves g c =
+    let spare = g.S.Space.spare c.args.s.now in
+    subst (λ x. IfOk c.fetch_turn.result (StarvesRightly spare x c.args.stage)) (sym c.in-Fetch.is)
+    (IfOk-weaker c.fetch_turn.result (LookOrder c.args.stage) (StarvesRightly spare (Plain.Fetch c.in-Fetch.key) c.args.stage) (fetch_starves spare c.in-Fetch.key c.args.stage) c.fetch_turn.ensures.order)
+
+pub returns-in-Has-clause-starves : goal.returns-in-Has-clause-starves
+returns-in-Has-clause-starves g c =
+    let spare = g.S.Space.spare c.args.s.now in
+    IfOk-weaker c.has_turn.result AnswersHas (StarvesRightly spare c.args.command.now c.args.stage) (has_starves spare c.args.command.now c.args.stage) c.has_turn.ensures.says
+
+pub returns-in-Store-clause-starves : goal.returns-in-Store-clause-starves
+returns-in-Store-clause-starves g c =
+    let spare = g.S.Space.spare c.args.s.now in
+    IfOk-weaker c.store_turn.result (StarvesBounded spare) (StarvesRightly spare c.args.command.now c.args.stage) (bounded_starves spare c.args.command.now c.args.stage) c.store_turn.ensures.starves
+
+pub returns-in-Append-clause-starves : goal.returns-in-Append-clause-starves
+returns-in-Append-clause-starves g c =
+    subst (λ x. IfOk c.append_turn.result (StarvesRightly (g.S.Space.spare c.args.s.now) x c.args.stage)) (sym c.in-Append.is) c.append_turn.ensures.starves
+
+pub returns-in-Delete-clause-starves : goal.returns-in-Delete-clause-starves
+returns-in-Delete-clause-starves g c =
+    let spare = g.S.Space.spare c.args.s.now in
+    IfOk-weaker c.delete_turn.result (StarvesBounded spare) (StarvesRightly spare c.args.command.now c.args.stage) (bounded_starves spare c.args.command.now c.args.stage) c.delete_turn.ensures.starves
+
+pub returns-in-Wipe-clause-starves : goal.returns-in-Wipe-clause-starves
+returns-in-Wipe-clause-starves g c =
+    let spare = g.S.Space.spare c.args.s.now in
+    IfOk-weaker c.wipe_turn.result (StarvesBounded spare) (StarvesRightly spare c.args.command.now c.args.stage) (bounded_starves spare c.args.command.now c.args.stage) c.wipe_turn.ensures.starves

@@ -8,13 +8,16 @@ use Rattle.tdb_space.specs.Pairs.{map_of}
 use Rattle.tdb_space.specs.NewRecord.{rec_len_for}
 use Rattle.tdb_steps.specs.Asked.{appends, joined, stores}
 use Rattle.tdb_steps.specs.Turns.{Makes, Stops, AppendMakes, Finds, UpdatesRightly, StoresRightly, AppendsRightly}
-use Rattle.tdb_steps.specs.Order.{StoreOrder}
+use Rattle.tdb_steps.specs.Order.{StoreOrder, LooksOn}
+use Rattle.tdb_steps.specs.Memory.{StarvesBounded, StarvesRightly}
+use Rattle.tdb_steps.specs.declared.plain.Plain.TheVariants.{Append}
 use Rattle.tdb_steps.specs.declared.flag.Flag.TheVariants as Flags
 use Rattle.tdb_steps.specs.declared.stage.Stage.TheVariants as Stage
 use Rattle.tdb_steps.specs.declared.stage.Next.TheVariants as Next
 use Rattle.tdb_locks.specs.declared.turn.Reply.TheVariants as Reply
 use Rattle.tdb_steps.proofs.Made.{of_both}
 use Rattle.tdb_steps.proofs.Appended.{look_appended, store_appended, look_rightly, store_rightly}
+use Rattle.tdb_steps.proofs.Starving.{append_looks, bounded_starves}
 use Rattle.tdb_steps.proofs.append_turns.append_turn.Goals as goal
 
 pub returns-in-Chained-clause-made : goal.returns-in-Chained-clause-made
@@ -56,6 +59,7 @@ returns-in_default g c =
     let key = c.args.key.now in
     let more = c.args.more.now in
     let whole = c.args.whole.now in
+    let spare = g.S.Space.spare c.args.s.now in
     record {
       made = of_both c.store_joined.result (λ next. IsTrue g.S.Space.tells → g.S.Space.size c.args.s.now < 2 ^ 32 → Makes f a b key (stores Flags.Replace (unwrap_or whole more)) c.args.stage next) (StoreOrder c.args.stage)
           (λ next. IsTrue g.S.Space.tells → g.S.Space.size c.args.s.now < 2 ^ 32 → AppendMakes f a b key more whole whole c.args.stage next)
@@ -64,6 +68,7 @@ returns-in_default g c =
           (λ next. IsTrue g.S.Space.tells → g.S.Space.size c.args.s.now < 2 ^ 32 → AppendsRightly f a b key more whole c.args.limit c.args.stood_on.now c.args.stage next)
           (λ next rightly told small. store_rightly f a b key more c.args.limit c.args.stood_on.now whole c.args.stage next c.in_default.not-Chained (rightly told small)) c.store_joined.ensures.rightly;
       order = c.store_joined.ensures.order;
+      starves = IfOk-weaker c.store_joined.result (StarvesBounded spare) (StarvesRightly spare (Append key more) c.args.stage) (bounded_starves spare (Append key more) c.args.stage) c.store_joined.ensures.starves;
       room = c.store_joined.ensures.room;
       leads = c.store_joined.ensures.leads;
       short = c.requires.whole;
@@ -85,3 +90,8 @@ returns-in-Chained-clause-stopped g c =
     let b = g.S.Space.image c.look_to_append.new.s in
     subst (λ then. OnErr c.look_to_append.result (IsTrue g.S.Space.tells → g.S.Space.size c.args.s.now < 2 ^ 32 → Stops f a b c.args.key.now then)) (sym c.in-Chained.is)
     (on_err_weaker c.look_to_append.result (λ stopped told small asked others A known. stopped told others A) c.look_to_append.ensures.stopped)
+
+-- the look takes a value
+pub returns-in-Chained-clause-starves : goal.returns-in-Chained-clause-starves
+returns-in-Chained-clause-starves g c =
+    IfOk-weaker c.look_to_append.result LooksOn _ (λ next order. append_looks (g.S.Space.spare c.args.s.now) c.args.key.now c.args.more.now c.args.stage next c.in-Chained.is) c.look_to_append.ensures.order

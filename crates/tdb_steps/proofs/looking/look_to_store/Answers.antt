@@ -15,6 +15,8 @@ use Rattle.tdb_space.proofs.Results.{on_err}
 use Rattle.tdb_chain.specs.Place.{HoldsKey}
 use Rattle.tdb_steps.proofs.Stopped.{stopped_nothing}
 use Rattle.tdb_chain.proofs.Rising.{rose_then}
+use Rattle.std.specs.Prelude.{IfOk}
+use Rattle.tdb_steps.specs.Memory.{StarvesBounded}
 use Rattle.tdb_steps.proofs.looking.look_to_store.Goals as goal
 
 pub returns-clause-made : goal.returns-clause-made
@@ -70,3 +72,7 @@ returns-clause-stopped g c =
 -- what was read
 pub returns-clause-reads : goal.returns-clause-reads
 returns-clause-reads g c told = rose_then _ _ _ _ _ _ (c.find.ensures.reads told) c.update_found.ensures.bytes_read (omega arith)
+
+-- where it has no bound, no memory is wanting
+pub returns-clause-starves : goal.returns-clause-starves
+returns-clause-starves g c = subst (λ x. IfOk c.update_found.result (StarvesBounded x)) c.find.ensures.looked.spare c.update_found.ensures.starves

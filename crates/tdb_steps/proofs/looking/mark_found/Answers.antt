@@ -7,7 +7,7 @@ use Rattle.tdb_steps.proofs.Made.{moved, in_place_made}
 use Rattle.tdb_space.specs.Accepted.{AcceptWith}
 use Rattle.tdb_space.specs.Chain.{chain_of}
 use Rattle.tdb_space.specs.Pairs.{home}
-use Rattle.tdb_space.proofs.Results.{on_err}
+use Rattle.tdb_space.proofs.Results.{on_err, ok_not}
 use Rattle.tdb_chain.specs.Place.{HoldsKey}
 use Rattle.tdb_steps.specs.Turns.{TurnStopped}
 use Rattle.tdb_steps.proofs.Stopped.{stopped_either}
@@ -28,3 +28,7 @@ returns-in_err-mark_dead-clause-stopped g c = on_err c.from_residual.result (λ 
     moved (λ x img. AcceptWith x img others → HoldsKey x img key c.args.place → TurnStopped x img b key []) (g.S.Space.form c.args.s.now) k (g.S.Space.image c.args.s.now) v c.ready.ensures.form c.ready.ensures.image
     (λ B there. stopped_either k v b key None (chain_of k v (home k key)) [] others others B (c.in_err-mark_dead.ensures.stopped told others key B there))
     A holds))
+
+-- where the room has no bound, it could be made
+pub returns-in_default-clause-starves : goal.returns-in_default-clause-starves
+returns-in_default-clause-starves g c is free = ok_not c.ready.result (c.ready.ensures.unbounded free) c.in_default.not-Ok

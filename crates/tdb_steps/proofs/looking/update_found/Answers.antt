@@ -7,7 +7,7 @@ use Rattle.tdb_space.specs.Accepted.{AcceptWith}
 use Rattle.tdb_space.specs.Chain.{chain_of}
 use Rattle.tdb_space.specs.Record.{data_at}
 use Rattle.tdb_space.specs.Pairs.{home}
-use Rattle.tdb_space.proofs.Results.{on_err}
+use Rattle.tdb_space.proofs.Results.{on_err, ok_not}
 use Rattle.tdb_chain.specs.Place.{HoldsKey}
 use Rattle.tdb_steps.specs.Turns.{TurnStopped}
 use Rattle.tdb_steps.proofs.Stopped.{stopped_set}
@@ -29,3 +29,7 @@ returns-in_err-update_in_place-clause-stopped g c = on_err c.from_residual.resul
     moved (λ x img. AcceptWith x img others → HoldsKey x img key p → TurnStopped x img b key []) (g.S.Space.form c.args.s.now) k (g.S.Space.image c.args.s.now) v c.ready.ensures.form c.ready.ensures.image
     (λ B there. stopped_set k v b key (Some (data_at k.order b p.off)) (chain_of k v (home k key)) [] others others (c.in_err-update_in_place.ensures.stopped_kept told others key B there))
     A holds))
+
+-- where the room has no bound, it could be made
+pub returns-in_default-clause-starves : goal.returns-in_default-clause-starves
+returns-in_default-clause-starves g c is free = ok_not c.ready.result (c.ready.ensures.unbounded free) c.in_default.not-Ok

@@ -7,6 +7,8 @@ use Rattle.tdb_steps.specs.Asked.{Asked, stores}
 use Rattle.tdb_steps.specs.Turns.{Makes, Stops, Finds, UpdatesRightly, StoresRightly}
 use Rattle.tdb_steps.specs.declared.flag.Flag.{Flag}
 use Rattle.tdb_steps.specs.declared.stage.Stage.TheVariants as Stage
+use Rattle.tdb_steps.proofs.Starving.{give_starves, link_starves}
+use Rattle.tdb_steps.specs.Order.{LinksOn}
 use Rattle.tdb_steps.proofs.storing.store_turn.Goals as goal
 
 pub returns-in-Chained-clause-made : goal.returns-in-Chained-clause-made
@@ -106,3 +108,10 @@ returns-in-Changed-clause-stopped g c =
     let b = g.S.Space.image c.give_back.new.s in
     subst (λ then. OnErr c.give_back.result (IsTrue g.S.Space.tells → g.S.Space.size c.args.s.now < 2 ^ 32 → Stops f a b c.args.key.now then)) (sym c.in-Changed.is)
     (on_err_weaker c.give_back.result (λ stopped told small asked others A known. stopped told small c.args.key.now others A) c.give_back.ensures.stopped)
+
+-- a turn that gives a record back, or links one, wants no memory
+pub returns-in-Changed-clause-starves : goal.returns-in-Changed-clause-starves
+returns-in-Changed-clause-starves g c = IfOk-weaker c.give_back.result _ _ (give_starves (g.S.Space.spare c.args.s.now)) c.give_back.ensures.ending
+
+pub returns-in-Taken-clause-starves : goal.returns-in-Taken-clause-starves
+returns-in-Taken-clause-starves g c = IfOk-weaker c.link_new.result LinksOn _ (link_starves (g.S.Space.spare c.args.s.now)) c.link_new.ensures.order

@@ -10,6 +10,7 @@ use Rattle.tdb_free.specs.Growth.{CanBeTaken, TakenBy}
 use Rattle.tdb_free.specs.OnlyList.{OnlyListChanges}
 use Rattle.tdb_steps.proofs.Made.{moved, number_same, took_made, full_made, no_room, said_lengths}
 use Rattle.tdb_steps.proofs.Stopped.{stopped_list}
+use Rattle.tdb_space.proofs.Results.{ok_not}
 use Rattle.tdb_steps.proofs.taking.take_new.Goals as goal
 
 pub returns-in-Ok-take-clause-made : goal.returns-in-Ok-take-clause-made
@@ -71,3 +72,7 @@ returns-in-Err-Io-clause-stopped g c told small key others A =
     stopped_list f a b [] others A (λ i. omega arith)
     (moved (λ x img. (offs : List ℕ) → CanBeTaken x img offs → OnlyListChanges x img b offs []) f (g.S.Space.form c.ready.new.self) a (g.S.Space.image c.ready.new.self) c.ready.ensures.form c.ready.ensures.image (c.take.ensures.only told) (free_of f a) (can_take f a others A short))
     key
+
+-- where the room has no bound, it could be made
+pub returns-in_default-clause-starves : goal.returns-in_default-clause-starves
+returns-in_default-clause-starves g c is free = ok_not c.ready.result (c.ready.ensures.unbounded free) c.in_default.not-Ok

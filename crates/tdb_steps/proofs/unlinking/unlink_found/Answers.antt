@@ -4,7 +4,7 @@ use Rattle.std.proofs.Common.{◌≡◌, ◌⊎◌, None, [], ◌∷◌, subst}
 use Rattle.tdb_space.specs.Accepted.{AcceptWith}
 use Rattle.tdb_space.specs.Chain.{chain_of, without}
 use Rattle.tdb_space.specs.Pairs.{home}
-use Rattle.tdb_space.proofs.Results.{on_err}
+use Rattle.tdb_space.proofs.Results.{on_err, ok_not}
 use Rattle.tdb_chain.specs.Place.{HoldsKey}
 use Rattle.tdb_chain.specs.Changed.{KeySet, hand_at}
 use Rattle.tdb_steps.specs.Turns.{TurnStopped}
@@ -27,3 +27,7 @@ returns-in_err-hand-clause-stopped g c = on_err c.from_residual.result (λ told 
     (λ B there. stopped_either k v b key None (without p.off (chain_of k v (home k key))) [] others (hand_at p ∷ others) B
     (subst (λ q. (b ≡ v) ⊎ KeySet k v b q None (without p.off (chain_of k v (home k q))) [] others (hand_at p ∷ others)) there.has_key (c.in_err-hand.ensures.stopped told others B there.place there.used)))
     A holds))
+
+-- where the room has no bound, it could be made
+pub returns-in_default-clause-starves : goal.returns-in_default-clause-starves
+returns-in_default-clause-starves g c is free = ok_not c.ready.result (c.ready.ensures.unbounded free) c.in_default.not-Ok

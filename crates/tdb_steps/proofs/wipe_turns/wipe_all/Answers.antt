@@ -2,7 +2,7 @@
 use Rattle.std.proofs.Common.{◌<◌, [], sym, subst}
 use Rattle.std.specs.Prelude.{◌^◌}
 use Rattle.tdb_space.specs.Accepted.{AcceptWith}
-use Rattle.tdb_space.proofs.Results.{on_err}
+use Rattle.tdb_space.proofs.Results.{on_err, ok_not}
 use Rattle.tdb_steps.specs.Wiped.{Wiped, WipeStopped}
 use Rattle.tdb_steps.proofs.Made.{moved}
 use Rattle.tdb_steps.proofs.WipeMade.{wiped_made}
@@ -24,3 +24,7 @@ pub returns-clause-made : goal.returns-clause-made
 returns-clause-made g c told small others none A =
     wiped_made (g.S.Space.form c.args.s.now) (g.S.Space.image c.args.s.now) (g.S.Space.image c.wipe.new.s) others none
     (returns-clause-rightly g c told small (subst (AcceptWith (g.S.Space.form c.args.s.now) (g.S.Space.image c.args.s.now)) none A))
+
+-- where the room has no bound, it could be made
+pub returns-in_default-clause-starves : goal.returns-in_default-clause-starves
+returns-in_default-clause-starves g c is free = ok_not c.ready.result (c.ready.ensures.unbounded free) c.in_default.not-Ok

@@ -15,6 +15,8 @@ use Rattle.tdb_steps.proofs.Rowed.{act_row}
 use Rattle.tdb_space.proofs.Results.{on_err}
 use Rattle.tdb_steps.specs.Reads.{look_reads, number_reads, TurnReads}
 use Rattle.tdb_steps.proofs.Reading.{read_besides}
+use Rattle.tdb_steps.specs.Memory.{TakesValue}
+use Rattle.tdb_steps.proofs.Starving.{done_so}
 use Rattle.tdb_steps.proofs.machine.Machine.act_turn.Goals as goal
 
 pub returns-in-Step-clause-made : goal.returns-in-Step-clause-made
@@ -123,3 +125,9 @@ returns-in_err-count-in-Done-clause-reads g c told hands A =
     let act = (subst (λ x. TurnReads (look_reads f img c.self.inside.command) 0 x before (g.S.Space.bytes_read c.act.new.s)) c.replace-stage.ensures.value (c.act.ensures.reads told hands A)) in
     subst (λ (d : Doing). TurnReads (look_reads f img d.command) number_reads d.stage before (g.S.Space.bytes_read c.count.new.s)) c.self.view_is
     (read_besides (look_reads f img c.self.inside.command) number_reads number_reads c.self.inside.stage before (g.S.Space.bytes_read c.act.new.s) (g.S.Space.bytes_read c.count.new.s) act c.count.ensures.bytes_read (omega arith))
+
+-- over a disk it ends for want of memory only where it takes a value
+pub returns-in_ok-count-in-Done-clause-starves : goal.returns-in_ok-count-in-Done-clause-starves
+returns-in_ok-count-in-Done-clause-starves g c is free =
+    subst (λ (d : Doing). TakesValue d.command d.stage) c.self.view_is
+    (subst (TakesValue c.self.inside.command) c.replace-stage.ensures.value (c.in_ok-next.ensures.starves (c.in-Done.is ∙ ap Next.Done (done_so is)) free))

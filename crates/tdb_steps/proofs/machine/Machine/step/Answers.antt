@@ -10,6 +10,7 @@ use Rattle.tdb_steps.proofs.machine.Machine.step.Goals.{in-Done, in_default-turn
 use Rattle.tdb_steps.specs.Reads.{number_reads}
 use Rattle.tdb_steps.proofs.Reading.{nothing_read}
 use Rattle.tdb_space.proofs.Results.{on_err}
+use Rattle.tdb_steps.proofs.Starving.{outside_lock, outside_act}
 use Rattle.tdb_steps.proofs.machine.Machine.step.Goals as goal
 
 pub returns-in-Some-clause-made : goal.returns-in-Some-clause-made
@@ -52,3 +53,12 @@ returns-in_err-turn-clause-stopped g c = on_err c.from_residual.result c.in_err-
 -- a turn that takes a lock reads nothing
 pub returns-in-Some-clause-reads : goal.returns-in-Some-clause-reads
 returns-in-Some-clause-reads g c told hands A = nothing_read _ number_reads c.args.self.now.stage (g.S.Space.bytes_read c.args.s.now) (g.S.Space.bytes_read c.args.s.now) refl
+
+-- over a disk it ends for want of memory only where it takes a lock or a value
+pub returns-in-Some-clause-starves : goal.returns-in-Some-clause-starves
+returns-in-Some-clause-starves g c free n is =
+    let d = c.args.self.now in
+    outside_lock (g.S.Space.form c.args.s.now) d n c.in-Some.row c.lock_turn.result (subst (λ x. row_at x d.stage ≡ Some c.in-Some.row) c.rows-rows.ensures (sym c.wanted.ensures ∙ c.in-Some.is)) is
+
+pub returns-clause-starves : goal.returns-clause-starves
+returns-clause-starves g c free n is = outside_act (g.S.Space.form c.args.s.now) c.args.self.now n c.in_ok-turn.turn (λ e. c.in_ok-turn.ensures.starves e free) is
