@@ -14,3 +14,4 @@ pub mod Filling
 pub mod Committing
 pub mod GivenUp
 pub mod Answered
+pub mod Reads

@@ -35,6 +35,7 @@ fn write_part<D: Disk>(
     ensures size { D.size d.new ≡ D.size d.old }
     ensures cause { HasCause (D.faults d.old) (D.faults d.new) result }
     ensures syncs { D.syncs d.new ≡ D.syncs d.old }
+    ensures bytes_read { D.bytes_read d.new ≡ D.bytes_read d.old }
 {
     match pages.bytes(number) {
         Some(page) => d.write(
@@ -63,6 +64,7 @@ pub(crate) fn write_range<D: Disk>(
     ensures size { D.size d.new ≡ D.size d.old }
     ensures cause { HasCause (D.faults d.old) (D.faults d.new) result }
     ensures syncs { D.syncs d.new ≡ D.syncs d.old }
+    ensures bytes_read { D.bytes_read d.new ≡ D.bytes_read d.old }
 {
     let count = (to - from) as usize;
     let mut done = 0;
@@ -91,6 +93,7 @@ pub(crate) fn write_runs<D: Disk>(
     ensures size { D.size d.new ≡ D.size d.old }
     ensures cause { HasCause (D.faults d.old) (D.faults d.new) result }
     ensures syncs { D.syncs d.new ≡ D.syncs d.old }
+    ensures bytes_read { D.bytes_read d.new ≡ D.bytes_read d.old }
 {
     for i in 0..runs.len() {
         let Some(run) = runs.get(i) else {

@@ -26,6 +26,7 @@ pub(crate) fn keep_area<D: Disk>(d: &mut D, plan: Plan) -> Result<Planned, Io>
     ensures size { OnOk result (D.size d.new ≡ plan.file_length) }
     ensures cause { HasCause (D.faults d.old) (D.faults d.new) result }
     ensures syncs { D.syncs d.new ≡ D.syncs d.old }
+    ensures bytes_read { D.bytes_read d.new ≡ D.bytes_read d.old }
 {
     d.grow(plan.new_length as u64)?;
     Ok(Planned { plan })

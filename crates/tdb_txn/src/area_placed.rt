@@ -1,6 +1,6 @@
 //! A commit that gets a new undo area.
 ghost use Rattle.std.specs.Prelude.{◌≡◌, ◌+◌, ◌%◌, ◌⊎◌, ℕ, List, IsTrue, IfOk, OnOk};
-ghost use Rattle.tdb_disk.specs.Count.{HasCause, RoseBy};
+ghost use Rattle.tdb_disk.specs.Count.{HasCause, RoseBy, RoseUpTo};
 ghost use Rattle.tdb_disk.specs.History.{seen};
 ghost use Rattle.tdb_disk.specs.Stop.{LeavesOnly, Quiet};
 ghost use Rattle.tdb_space.specs.Undoing.{Reopens};
@@ -32,6 +32,7 @@ pub(crate) fn place_area<D: Disk>(d: &mut D, plan: Plan) -> Result<Planned, Io>
     ensures cause { HasCause (D.faults d.old) (D.faults d.new) result }
     ensures syncs { OnOk result (RoseBy 3 (D.syncs d.old) (D.syncs d.new) ⊎ RoseBy 5 (D.syncs d.old) (D.syncs d.new)) }
     ensures as_often { OnOk result (IsTrue D.tells → (x b : List ℕ) → let r = seen (D.history d.old) in PlacesArea plan r x b → RoseBy (clearing_syncs plan.header.order r + 3) (D.syncs d.old) (D.syncs d.new)) }
+    ensures bytes_read { RoseUpTo 28 (D.bytes_read d.old) (D.bytes_read d.new) }
 {
     ensure(
         d,

@@ -1,8 +1,9 @@
 //! The undo area of a planned commit is filled.
-ghost use Rattle.std.specs.Prelude.{◌≡◌, ℕ, List, IsTrue, IfOk};
+ghost use Rattle.std.specs.Prelude.{◌≡◌, ◌+◌, ℕ, List, IsTrue, IfOk};
 ghost use Rattle.tdb_disk.specs.Count.{HasCause, RoseBy, RoseUpTo};
 ghost use Rattle.tdb_disk.specs.Stop.{LeavesOnly};
 ghost use Rattle.tdb_space.specs.Undoing.{Reopens};
+ghost use Rattle.tdb_undo.specs.Reads.{run_bytes};
 
 use crate::states::{Filled, Planned};
 use tdb_disk::Disk;
@@ -25,6 +26,7 @@ impl Planned {
         ensures size { D.size d.new ≡ D.size d.old }
         ensures cause { HasCause (D.faults d.old) (D.faults d.new) result }
         ensures at_most { RoseUpTo 1 (D.syncs d.old) (D.syncs d.new) }
+        ensures bytes_read { RoseUpTo (28 + run_bytes (planned_plan self).runs) (D.bytes_read d.old) (D.bytes_read d.new) }
     {
         let Planned { plan } = self;
         put_content(d, &plan.header, plan.old_length, &plan.runs)?;

@@ -19,6 +19,7 @@ pub(crate) fn set_word<D: Disk>(d: &mut D, at: u64, w: [u8; 4]) -> Result<(), Di
     ensures cause { HasCause (D.faults d.old) (D.faults d.new) result }
     ensures syncs { OnOk result (RoseBy 1 (D.syncs d.old) (D.syncs d.new)) }
     ensures at_most { RoseUpTo 1 (D.syncs d.old) (D.syncs d.new) }
+    ensures bytes_read { D.bytes_read d.new ≡ D.bytes_read d.old }
 {
     d.write_word(at, w)?;
     d.sync()

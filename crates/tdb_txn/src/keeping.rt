@@ -1,6 +1,6 @@
 //! A transaction becomes the plan of its commit.
 ghost use Rattle.std.specs.Prelude.{◌≡◌, ◌+◌, ◌%◌, ◌<◌, ◌≤◌, ◌^◌, ◌⊎◌, ℕ, List, IsTrue, IfOk, OnOk};
-ghost use Rattle.tdb_disk.specs.Count.{HasCause, RoseBy};
+ghost use Rattle.tdb_disk.specs.Count.{HasCause, RoseBy, RoseUpTo};
 ghost use Rattle.tdb_disk.specs.History.{seen};
 ghost use Rattle.tdb_disk.specs.Stop.{LeavesOnly, Quiet};
 ghost use Rattle.tdb_space.specs.Planned.{content_length};
@@ -48,6 +48,7 @@ impl Txn {
         ensures file { IfOk result (λ next. plan_length (planned_plan next) ≡ txn_size self) }
         ensures cause { HasCause (D.faults d.old) (D.faults d.new) result }
         ensures syncs { D.syncs d.new ≡ D.syncs d.old }
+        ensures bytes_read { D.bytes_read d.new ≡ D.bytes_read d.old }
     {
         let mut pages = self.pages;
         pages.shrink_to_fit();
@@ -87,6 +88,7 @@ impl Txn {
         ensures cause { HasCause (D.faults d.old) (D.faults d.new) result }
         ensures syncs { OnOk result (RoseBy 3 (D.syncs d.old) (D.syncs d.new) ⊎ RoseBy 5 (D.syncs d.old) (D.syncs d.new)) }
         ensures as_often { OnOk result (IsTrue D.tells → let r = seen (D.history d.old) in (x : List ℕ) → MayPlace self r x runs → RoseBy (clearing_syncs (form_of r).order r + 3) (D.syncs d.old) (D.syncs d.new)) }
+        ensures bytes_read { RoseUpTo 28 (D.bytes_read d.old) (D.bytes_read d.new) }
     {
         let mut pages = self.pages;
         pages.shrink_to_fit();

@@ -1,6 +1,6 @@
 //! The plan of a commit.
-ghost use Rattle.std.specs.Prelude.{◌≡◌, ◌≢◌, ◌+◌, ◌%◌, ◌<◌, ◌≤◌, ◌^◌, ◌⊎◌, ℕ, List, false, IsTrue, IfOk, IfErr, OnOk};
-ghost use Rattle.tdb_disk.specs.Count.{HasCauseOf, RoseBy};
+ghost use Rattle.std.specs.Prelude.{◌≡◌, ◌≢◌, ◌+◌, ◌%◌, ◌<◌, ◌≤◌, ◌^◌, ◌⊎◌, ℕ, List, false, IsTrue, IfOk, IfErr, OnOk, length};
+ghost use Rattle.tdb_disk.specs.Count.{HasCauseOf, RoseBy, RoseUpTo};
 ghost use Rattle.tdb_disk.specs.History.{seen};
 ghost use Rattle.tdb_disk.specs.Stop.{LeavesOnly, Quiet};
 ghost use Rattle.tdb_space.specs.Form.{form_of};
@@ -34,7 +34,8 @@ pub enum ToCommit {
 impl Txn {
     ghost use Rattle.tdb_txn.specs.Answered.{AnsweredRightly, LeftFor, AreaReplaced, PlanSyncs, ReplaceRefused, PlaceRefused};
     ghost use Rattle.tdb_txn.specs.Committing.{MayCommit, MayPlace, HasAreaIn};
-    ghost use Rattle.tdb_txn.specs.Txn.{txn_start, txn_size, txn_image, txn_depth, txn_doomed};
+    ghost use Rattle.tdb_txn.specs.Reads.{NeedsNoOther, plan_reads};
+    ghost use Rattle.tdb_txn.specs.Txn.{txn_pages, txn_start, txn_size, txn_image, txn_depth, txn_doomed};
 
     /// Plans its commit into a new undo area behind what the transaction has of the file, and places that area. The
     /// file may get `limit` bytes. `Full` comes before any call that changes the file, and no memory is taken.
@@ -60,6 +61,7 @@ impl Txn {
         ensures cause { HasCauseOf TxnRefusal.Io (D.faults d.old) (D.faults d.new) result }
         ensures syncs { OnOk result (RoseBy 3 (D.syncs d.old) (D.syncs d.new) ⊎ RoseBy 5 (D.syncs d.old) (D.syncs d.new)) }
         ensures as_often { OnOk result (IsTrue D.tells → let r = seen (D.history d.old) in (x : List ℕ) → MayPlace self r x runs → RoseBy (clearing_syncs (form_of r).order r + 3) (D.syncs d.old) (D.syncs d.new)) }
+        ensures bytes_read { RoseUpTo 28 (D.bytes_read d.old) (D.bytes_read d.new) }
     {
         let need = area_len_of(&runs);
         if limit - self.size < need {
@@ -140,6 +142,7 @@ impl Txn {
         ensures syncs { OnOk result ((D.syncs d.new ≡ D.syncs d.old) ⊎ RoseBy 3 (D.syncs d.old) (D.syncs d.new) ⊎ RoseBy 5 (D.syncs d.old) (D.syncs d.new)) }
         ensures idle { IfOk result (λ left. left ≡ ToCommit.Nothing → D.syncs d.new ≡ D.syncs d.old) }
         ensures as_often { IsTrue D.tells → let r = seen (D.history d.old) in MayCommit self r → PlanSyncs self r (D.syncs d.old) (D.syncs d.new) result }
+        ensures reads { IsTrue D.tells → let r = seen (D.history d.old) in MayCommit self r → NeedsNoOther self r → RoseUpTo (plan_reads (length (txn_pages self))) (D.bytes_read d.old) (D.bytes_read d.new) }
     {
         let area = find_area(d, self.header.order, self.start)?;
         let runs = self.changes(d, area, limit)?;

@@ -57,6 +57,7 @@ impl Filled {
         ensures cause { HasCause (D.faults d.old) (D.faults d.new) result }
         ensures syncs { OnOk result (RoseBy 1 (D.syncs d.old) (D.syncs d.new)) }
         ensures at_most { RoseUpTo 1 (D.syncs d.old) (D.syncs d.new) }
+        ensures bytes_read { D.bytes_read d.new ≡ D.bytes_read d.old }
     {
         let Filled { plan } = self;
         set_word(d, plan.gate(), word_bytes(GATE_OPEN, plan.header.order))?;
@@ -82,6 +83,7 @@ impl Prepared {
         ensures size { D.size d.new ≡ D.size d.old }
         ensures cause { HasCause (D.faults d.old) (D.faults d.new) result }
         ensures syncs { D.syncs d.new ≡ D.syncs d.old }
+        ensures bytes_read { D.bytes_read d.new ≡ D.bytes_read d.old }
     {
         let Prepared { plan } = self;
         write_runs(d, &plan.pages, &plan.runs, plan.old_length)?;
@@ -104,6 +106,7 @@ impl Prepared {
         ensures cause { HasCause (D.faults d.old) (D.faults d.new) result }
         ensures syncs { OnOk result (RoseBy 1 (D.syncs d.old) (D.syncs d.new)) }
         ensures at_most { RoseUpTo 1 (D.syncs d.old) (D.syncs d.new) }
+        ensures bytes_read { D.bytes_read d.new ≡ D.bytes_read d.old }
     {
         let Prepared { plan } = self;
         let shut = word_bytes(GATE_SHUT, plan.header.order);
@@ -130,6 +133,7 @@ impl Applied {
         ensures cause { HasCause (D.faults d.old) (D.faults d.new) result }
         ensures syncs { OnOk result (RoseBy 1 (D.syncs d.old) (D.syncs d.new)) }
         ensures at_most { RoseUpTo 1 (D.syncs d.old) (D.syncs d.new) }
+        ensures bytes_read { D.bytes_read d.new ≡ D.bytes_read d.old }
     {
         let Applied { plan } = self;
         d.sync()?;
@@ -156,6 +160,7 @@ impl Settled {
         ensures cause { HasCause (D.faults d.old) (D.faults d.new) result }
         ensures syncs { OnOk result (RoseBy 1 (D.syncs d.old) (D.syncs d.new)) }
         ensures at_most { RoseUpTo 1 (D.syncs d.old) (D.syncs d.new) }
+        ensures bytes_read { D.bytes_read d.new ≡ D.bytes_read d.old }
     {
         let Settled { plan } = self;
         set_word(d, plan.gate(), word_bytes(GATE_SHUT, plan.header.order))?;

@@ -19,6 +19,7 @@ loop-done-init g c = record {
   size = refl;
   faults = refl;
   syncs = refl;
+  bytes_read = refl;
 }
 
 pub returns-in_err-write_part-clause-stops : goal.returns-in_err-write_part-clause-stops
@@ -67,4 +68,5 @@ loop-done-preserved g c =
       size = c.write_part.ensures.size ∙ was.size;
       faults = c.in_ok-write_part.ensures.cause.done ∙ was.faults;
       syncs = c.write_part.ensures.syncs ∙ was.syncs;
+      bytes_read = c.write_part.ensures.bytes_read ∙ was.bytes_read;
     }

@@ -16,6 +16,7 @@ loop-i-init g c = record {
   size = refl;
   faults = refl;
   syncs = refl;
+  bytes_read = refl;
 }
 
 pub returns-in_err-write_range-clause-stops : goal.returns-in_err-write_range-clause-stops
@@ -59,6 +60,7 @@ loop-i-preserved g c =
       size = c.write_range.ensures.size ∙ was.size;
       faults = c.in_ok-write_range.ensures.cause.done ∙ was.faults;
       syncs = c.write_range.ensures.syncs ∙ was.syncs;
+      bytes_read = c.write_range.ensures.bytes_read ∙ was.bytes_read;
     }
 
 pub returns-clause-put : goal.returns-clause-put

@@ -20,4 +20,5 @@ invariant-loop-i g l = record {
   size : g.D.Disk.size l.d ≡ g.D.Disk.size l.initial.d;
   faults : g.D.Disk.faults l.d ≡ g.D.Disk.faults l.initial.d;
   syncs : g.D.Disk.syncs l.d ≡ g.D.Disk.syncs l.initial.d;
+  bytes_read : g.D.Disk.bytes_read l.d ≡ g.D.Disk.bytes_read l.initial.d;
 }

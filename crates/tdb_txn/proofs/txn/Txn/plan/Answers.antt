@@ -234,3 +234,39 @@ returns-clause-as_often g c told may =
           (w.in_ok-planned-3.ensures.as_often told) may there in
           replaced_syncs t r e runs may is changed before new w.if-area-eq0.false short (subst (λ n. RoseBy 5 n new) count placed))
     ]
+
+-- what was read, where no undo area is replaced
+pub returns-in_err-planned-3-clause-reads : goal.returns-in_err-planned-3-clause-reads
+returns-in_err-planned-3-clause-reads g c told may keeps =
+    let h = g.D.Disk.history c.args.d.now in
+    let r = seen h in
+    let t = c.args.self in
+    let e = c.in_ok-area.area in
+    let is = found t r e may (λ f order. c.in_ok-area.ensures.found told (form_of r) (sym (ap (λ (f : Form). f.order) may.header)) may.before.area_ok) in
+    let changed = runs_of t e c.in_ok-runs.runs h (g.D.Disk.history c.find_area.new.d) c.find_area.ensures.history (c.in_ok-runs.ensures.runs told) in
+    let there = Plans.area_there t c.args.limit r e c.in_ok-runs.runs may is changed c.if-area-eq0.false in
+    absurd (omega (arith, c.if-content_len-area.false, c.content_len.ensures, keeps e c.in_ok-runs.runs there changed))
+
+pub returns-clause-reads : goal.returns-clause-reads
+returns-clause-reads g c told may keeps =
+    let h = g.D.Disk.history c.args.d.now in
+    let r = seen h in
+    let t = c.args.self in
+    let e = c.in_ok-area.area in
+    let runs = c.in_ok-runs.runs in
+    let before = g.D.Disk.bytes_read c.args.d.now in
+    let is = found t r e may (λ f order. c.in_ok-area.ensures.found told (form_of r) (sym (ap (λ (f : Form). f.order) may.header)) may.before.area_ok) in
+    let changed = runs_of t e runs h (g.D.Disk.history c.find_area.new.d) c.find_area.ensures.history (c.in_ok-runs.ensures.runs told) in
+    elim c.if-area-eq0.branch [
+      | then-area-eq0+in_ok-planned w ↦ rw w.d-is (record {
+        no_more = omega (arith, c.find_area.ensures.bytes_read.no_more, c.changes.ensures.bytes_read.no_more, w.place_new.ensures.bytes_read.no_more);
+        never_falls = omega (arith, c.find_area.ensures.bytes_read.never_falls, c.changes.ensures.bytes_read.never_falls, w.place_new.ensures.bytes_read.never_falls);
+      })
+      | else-area-eq0+then-content_len-area+in_ok-planned-2 w ↦ rw w.d-is (record {
+        no_more = omega (arith, c.find_area.ensures.bytes_read.no_more, c.changes.ensures.bytes_read.no_more, w.keep.ensures.bytes_read);
+        never_falls = omega (arith, c.find_area.ensures.bytes_read.never_falls, c.changes.ensures.bytes_read.never_falls, w.keep.ensures.bytes_read);
+      })
+      | else-area-eq0+else-content_len-area+in_ok-planned-3 w ↦
+          (let there = Plans.area_there t c.args.limit r e runs may is changed w.if-area-eq0.false in
+          absurd (omega (arith, w.if-content_len-area.false, w.content_len.ensures, keeps e runs there changed)))
+    ]
