@@ -9,7 +9,7 @@ ghost use Rattle.tdb_steps.specs.PlainCommands.{command_of};
 ghost use Rattle.tdb_steps.specs.Order.{InOrder};
 ghost use Rattle.tdb_steps.specs.Memory.{StarvesRightly};
 ghost use Rattle.tdb_steps.specs.Machines.{IsShort, IsShortWhole, IsFit, CommandMakes, CommandStops, CommandRightly};
-ghost use Rattle.tdb_steps.specs.Reads.{TurnReads, look_reads};
+ghost use Rattle.tdb_steps.specs.Reads.{TurnReads, costs_of};
 ghost use Rattle.tdb_space.specs.Extents.{HandPair};
 ghost use Rattle.tdb_space.specs.Accepted.{AcceptWith};
 
@@ -57,7 +57,8 @@ pub(crate) fn act<S: Space>(
     ensures wrote { Wrote S.Space s.old s.new }
     ensures cause { HasCause (S.faults s.old) (S.faults s.new) result }
     ensures bytes_read { S.bytes_read s.old ≤ S.bytes_read s.new }
-    ensures reads { IsTrue S.tells → (hands : List HandPair) → AcceptWith (S.form s.old) (S.image s.old) hands → TurnReads (look_reads (S.form s.old) (S.image s.old) command.now) 0 stage (S.bytes_read s.old) (S.bytes_read s.new) }
+    ensures reads { IsTrue S.tells → S.size s.old < 2 ^ 32 → (hands : List HandPair) → AcceptWith (S.form s.old) (S.image s.old) hands
+        → TurnReads (costs_of (S.form s.old) (S.image s.old) command.now whole.old) 0 stage (S.bytes_read s.old) (S.bytes_read s.new) }
 {
     match command {
         Plain::Fetch { key } => fetch_turn(alloc, stage, s, key.as_slice()),

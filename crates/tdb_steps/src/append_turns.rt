@@ -1,6 +1,6 @@
 // The turns of an append.
 
-ghost use Rattle.std.specs.Prelude.{◌≡◌, ◌≤◌, ◌<◌, ◌+◌, ◌^◌, IsTrue, IfOk, OnErr, length, unwrap_or, List, ℕ};
+ghost use Rattle.std.specs.Prelude.{◌≡◌, ◌≤◌, ◌<◌, ◌+◌, ◌^◌, IsTrue, IfOk, OnErr, length, unwrap_or, List, ℕ, None};
 ghost use Rattle.tdb_disk.specs.Count.{HasCause};
 ghost use Rattle.tdb_space.specs.Frame.{Looked, Wrote};
 ghost use Rattle.tdb_space.specs.NewRecord.{rec_len_for};
@@ -11,8 +11,8 @@ ghost use Rattle.tdb_steps.specs.Order.{StoreOrder};
 ghost use Rattle.tdb_steps.specs.Memory.{StarvesBounded, StarvesRightly};
 ghost use Rattle.tdb_steps.specs.declared.flag.Flag.TheVariants as Flags;
 ghost use Rattle.tdb_steps.specs.declared.stage.Stage.TheVariants as Stage;
-ghost use Rattle.tdb_steps.specs.Reads.{TurnReads, look_reads};
-ghost use Rattle.tdb_steps.specs.declared.plain.Plain.TheVariants.{Append};
+ghost use Rattle.tdb_steps.specs.Reads.{TurnReads, costs_of};
+ghost use Rattle.tdb_steps.specs.declared.plain.Plain.TheVariants.{Append, Store};
 ghost use Rattle.tdb_space.specs.Extents.{HandPair};
 ghost use Rattle.tdb_space.specs.Accepted.{AcceptWith};
 
@@ -55,7 +55,8 @@ fn store_joined<S: Space>(
     ensures wrote { Wrote S.Space s.old s.new }
     ensures cause { HasCause (S.faults s.old) (S.faults s.new) result }
     ensures bytes_read { S.bytes_read s.old ≤ S.bytes_read s.new }
-    ensures reads { IsTrue S.tells → (look : ℕ) → (stage ≡ Stage.Chained → ⊥) → TurnReads look 0 stage (S.bytes_read s.old) (S.bytes_read s.new) }
+    ensures reads { IsTrue S.tells → S.size s.old < 2 ^ 32 → (hands : List HandPair) → AcceptWith (S.form s.old) (S.image s.old) hands
+        → TurnReads (costs_of (S.form s.old) (S.image s.old) (Store key.now (unwrap_or whole.now more.now) Flags.Replace) None) 0 stage (S.bytes_read s.old) (S.bytes_read s.new) }
 {
     match whole {
         Some(bytes) => store_turn(
@@ -112,7 +113,8 @@ pub fn append_turn<S: Space>(
     ensures wrote { Wrote S.Space s.old s.new }
     ensures cause { HasCause (S.faults s.old) (S.faults s.new) result }
     ensures bytes_read { S.bytes_read s.old ≤ S.bytes_read s.new }
-    ensures reads { IsTrue S.tells → (hands : List HandPair) → AcceptWith (S.form s.old) (S.image s.old) hands → TurnReads (look_reads (S.form s.old) (S.image s.old) (Append key.now more.now)) 0 stage (S.bytes_read s.old) (S.bytes_read s.new) }
+    ensures reads { IsTrue S.tells → S.size s.old < 2 ^ 32 → (hands : List HandPair) → AcceptWith (S.form s.old) (S.image s.old) hands
+        → TurnReads (costs_of (S.form s.old) (S.image s.old) (Append key.now more.now) whole.old) 0 stage (S.bytes_read s.old) (S.bytes_read s.new) }
 {
     match stage {
         Stage::Chained => look_to_append(alloc, s, key, more, whole),

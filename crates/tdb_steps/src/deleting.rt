@@ -1,14 +1,16 @@
 // The turns of a delete.
 
-ghost use Rattle.std.specs.Prelude.{◌≡◌, ◌≤◌, ◌<◌, ◌^◌, IsTrue, IfOk, OnErr, length};
+ghost use Rattle.std.specs.Prelude.{◌≡◌, ◌≤◌, ◌<◌, ◌^◌, IsTrue, IfOk, OnErr, length, List, None};
 ghost use Rattle.tdb_disk.specs.Count.{HasCause};
 ghost use Rattle.tdb_space.specs.Frame.{Looked, Wrote};
+ghost use Rattle.tdb_space.specs.Extents.{HandPair};
+ghost use Rattle.tdb_space.specs.Accepted.{AcceptWith};
 ghost use Rattle.tdb_steps.specs.Asked.{deletes};
 ghost use Rattle.tdb_steps.specs.Stages.{OfDelete, Leads, IsIdle, CanCount};
 ghost use Rattle.tdb_steps.specs.Turns.{Makes, Stops, DeletesRightly};
 ghost use Rattle.tdb_steps.specs.Order.{DeleteOrder};
 ghost use Rattle.tdb_steps.specs.Memory.{StarvesBounded};
-ghost use Rattle.tdb_steps.specs.Reads.{TurnReads, look_reads};
+ghost use Rattle.tdb_steps.specs.Reads.{TurnReads, costs_of};
 ghost use Rattle.tdb_steps.specs.declared.plain.Plain.TheVariants.{Delete};
 
 use crate::giving::give_back;
@@ -46,7 +48,8 @@ pub fn delete_turn<S: Space>(
     ensures wrote { Wrote S.Space s.old s.new }
     ensures cause { HasCause (S.faults s.old) (S.faults s.new) result }
     ensures bytes_read { S.bytes_read s.old ≤ S.bytes_read s.new }
-    ensures reads { IsTrue S.tells → TurnReads (look_reads (S.form s.old) (S.image s.old) (Delete key.now)) 0 stage (S.bytes_read s.old) (S.bytes_read s.new) }
+    ensures reads { IsTrue S.tells → S.size s.old < 2 ^ 32 → (hands : List HandPair) → AcceptWith (S.form s.old) (S.image s.old) hands
+        → TurnReads (costs_of (S.form s.old) (S.image s.old) (Delete key.now) None) 0 stage (S.bytes_read s.old) (S.bytes_read s.new) }
 {
     match stage {
         Stage::Begun => Ok(Next::Step(Stage::Chained)),

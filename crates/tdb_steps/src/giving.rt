@@ -1,11 +1,13 @@
 // The turn that gives the old record of a key to the free list.
 
-ghost use Rattle.std.specs.Prelude.{◌≡◌, ◌≤◌, ◌<◌, ◌^◌, ℕ, List, [], ◌∷◌, IsTrue, IfOk, OnOk, OnErr};
-ghost use Rattle.tdb_disk.specs.Count.{HasCause};
+ghost use Rattle.std.specs.Prelude.{◌≡◌, ◌≤◌, ◌<◌, ◌^◌, ℕ, List, [], ◌∷◌, IsTrue, IfOk, OnOk, OnErr, length};
+ghost use Rattle.tdb_disk.specs.Count.{HasCause, RoseUpTo};
 ghost use Rattle.tdb_space.specs.Frame.{Wrote};
+ghost use Rattle.tdb_space.specs.Chain.{free_of};
 ghost use Rattle.tdb_space.specs.Extents.{HandPair};
 ghost use Rattle.tdb_space.specs.Accepted.{AcceptWith};
 ghost use Rattle.tdb_space.specs.Spare.{RoomForAll};
+ghost use Rattle.tdb_free.specs.Reads.{give_reads};
 ghost use Rattle.tdb_steps.specs.Asked.{Asked};
 ghost use Rattle.tdb_steps.specs.Turns.{Makes, TurnStopped, GivesRightly};
 ghost use Rattle.tdb_steps.specs.declared.stage.Stage.TheVariants as Stage;
@@ -29,6 +31,8 @@ pub(crate) fn give_back<S: Space>(s: &mut S, hand: Hand) -> Result<Next, Io>
     ensures wrote { Wrote S.Space s.old s.new }
     ensures cause { HasCause (S.faults s.old) (S.faults s.new) result }
     ensures bytes_read { S.bytes_read s.old ≤ S.bytes_read s.new }
+    ensures reads { IsTrue S.tells → (hands : List HandPair) → AcceptWith (S.form s.old) (S.image s.old) hands
+        → RoseUpTo (give_reads (length (free_of (S.form s.old) (S.image s.old)))) (S.bytes_read s.old) (S.bytes_read s.new) }
 {
     match give(s, hand) {
         Ok(()) => Ok(Next::Step(Stage::Ending)),

@@ -1,6 +1,6 @@
 // The turns of a command that only looks.
 
-ghost use Rattle.std.specs.Prelude.{◌≡◌, ◌≤◌, ◌<◌, ◌^◌, IsTrue, IfOk, length, List};
+ghost use Rattle.std.specs.Prelude.{◌≡◌, ◌≤◌, ◌<◌, ◌^◌, IsTrue, IfOk, length, List, None};
 ghost use Rattle.tdb_disk.specs.Count.{HasCause};
 ghost use Rattle.tdb_space.specs.Frame.{Looked};
 ghost use Rattle.tdb_steps.specs.Asked.{fetches, asks};
@@ -9,7 +9,7 @@ ghost use Rattle.tdb_steps.specs.Turns.{Makes, LooksRightly};
 ghost use Rattle.tdb_steps.specs.Order.{AnswersHas, LookOrder};
 ghost use Rattle.tdb_space.specs.Extents.{HandPair};
 ghost use Rattle.tdb_space.specs.Accepted.{AcceptWith};
-ghost use Rattle.tdb_steps.specs.Reads.{TurnReads, look_reads};
+ghost use Rattle.tdb_steps.specs.Reads.{TurnReads, costs_of};
 ghost use Rattle.tdb_steps.specs.declared.plain.Plain.TheVariants.{Fetch, Has};
 
 use crate::look::{fetch, has};
@@ -30,7 +30,8 @@ pub fn fetch_turn<S: Space>(alloc: Global, stage: Stage, s: &mut S, key: &[u8]) 
     ensures looked { Looked S.Space s.old s.new }
     ensures cause { HasCause (S.faults s.old) (S.faults s.new) result }
     ensures bytes_read { S.bytes_read s.old ≤ S.bytes_read s.new }
-    ensures reads { IsTrue S.tells → (hands : List HandPair) → AcceptWith (S.form s.old) (S.image s.old) hands → TurnReads (look_reads (S.form s.old) (S.image s.old) (Fetch key.now)) 0 stage (S.bytes_read s.old) (S.bytes_read s.new) }
+    ensures reads { IsTrue S.tells → S.size s.old < 2 ^ 32 → (hands : List HandPair) → AcceptWith (S.form s.old) (S.image s.old) hands
+        → TurnReads (costs_of (S.form s.old) (S.image s.old) (Fetch key.now) None) 0 stage (S.bytes_read s.old) (S.bytes_read s.new) }
 {
     match stage {
         Stage::Begun => Ok(Next::Step(Stage::Chained)),
@@ -57,7 +58,8 @@ pub fn has_turn<S: Space>(stage: Stage, s: &mut S, key: &[u8]) -> Result<Next, I
     ensures looked { Looked S.Space s.old s.new }
     ensures cause { HasCause (S.faults s.old) (S.faults s.new) result }
     ensures bytes_read { S.bytes_read s.old ≤ S.bytes_read s.new }
-    ensures reads { IsTrue S.tells → (hands : List HandPair) → AcceptWith (S.form s.old) (S.image s.old) hands → TurnReads (look_reads (S.form s.old) (S.image s.old) (Has key.now)) 0 stage (S.bytes_read s.old) (S.bytes_read s.new) }
+    ensures reads { IsTrue S.tells → S.size s.old < 2 ^ 32 → (hands : List HandPair) → AcceptWith (S.form s.old) (S.image s.old) hands
+        → TurnReads (costs_of (S.form s.old) (S.image s.old) (Has key.now) None) 0 stage (S.bytes_read s.old) (S.bytes_read s.new) }
 {
     match stage {
         Stage::Begun => Ok(Next::Step(Stage::Chained)),

@@ -18,7 +18,7 @@ ghost use Rattle.tdb_steps.specs.LockRows.{rows_of, row_at, locks_in, AllStandAl
 ghost use Rattle.tdb_steps.specs.Holdings.{HoldsBefore, LocksTurned};
 ghost use Rattle.tdb_steps.specs.Machines.{begun, IsShort, Fits, is_counted, IsQuiet, DoingKnows, MachineTurned, MachineStopped, MapRow, Leaves};
 ghost use Rattle.tdb_steps.specs.LockTurns.{LockLed, ActLed, ActRightly};
-ghost use Rattle.tdb_steps.specs.Reads.{TurnReads, look_reads, number_reads};
+ghost use Rattle.tdb_steps.specs.Reads.{TurnReads, costs_of, number_reads};
 
 use crate::acting::act;
 use crate::counting::count;
@@ -191,7 +191,8 @@ impl Machine {
         ensures wrote { Wrote S.Space s.old s.new }
         ensures cause { HasCause (S.faults s.old) (S.faults s.new) result }
         ensures bytes_read { S.bytes_read s.old ≤ S.bytes_read s.new }
-        ensures reads { IsTrue S.tells → (hands : List HandPair) → AcceptWith (S.form s.old) (S.image s.old) hands → TurnReads (look_reads (S.form s.old) (S.image s.old) self.old.command) number_reads self.old.stage (S.bytes_read s.old) (S.bytes_read s.new) }
+        ensures reads { IsTrue S.tells → S.size s.old < 2 ^ 32 → (hands : List HandPair) → AcceptWith (S.form s.old) (S.image s.old) hands
+            → TurnReads (costs_of (S.form s.old) (S.image s.old) self.old.command self.old.whole) number_reads self.old.stage (S.bytes_read s.old) (S.bytes_read s.new) }
     {
         let stage = mem::replace(&mut self.stage, Stage::Begun);
         let mut whole = self.whole.take();
@@ -275,7 +276,8 @@ impl Machine {
         ensures wrote { Wrote S.Space s.old s.new }
         ensures cause { HasCause (S.faults s.old) (S.faults s.new) result }
         ensures bytes_read { S.bytes_read s.old ≤ S.bytes_read s.new }
-        ensures reads { IsTrue S.tells → (hands : List HandPair) → AcceptWith (S.form s.old) (S.image s.old) hands → TurnReads (look_reads (S.form s.old) (S.image s.old) self.old.command) number_reads self.old.stage (S.bytes_read s.old) (S.bytes_read s.new) }
+        ensures reads { IsTrue S.tells → S.size s.old < 2 ^ 32 → (hands : List HandPair) → AcceptWith (S.form s.old) (S.image s.old) hands
+            → TurnReads (costs_of (S.form s.old) (S.image s.old) self.old.command self.old.whole) number_reads self.old.stage (S.bytes_read s.old) (S.bytes_read s.new) }
     {
         let rows = self.rows();
         if let Some(row) = self.wanted(&rows) {

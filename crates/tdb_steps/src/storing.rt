@@ -1,15 +1,17 @@
 // The turns of a store.
 
-ghost use Rattle.std.specs.Prelude.{◌≤◌, ◌<◌, ◌+◌, ◌^◌, IsTrue, IfOk, OnErr, length};
+ghost use Rattle.std.specs.Prelude.{◌≤◌, ◌<◌, ◌+◌, ◌^◌, IsTrue, IfOk, OnErr, length, List, None};
 ghost use Rattle.tdb_disk.specs.Count.{HasCause};
 ghost use Rattle.tdb_space.specs.Frame.{Looked, Wrote};
+ghost use Rattle.tdb_space.specs.Extents.{HandPair};
+ghost use Rattle.tdb_space.specs.Accepted.{AcceptWith};
 ghost use Rattle.tdb_space.specs.NewRecord.{rec_len_for};
 ghost use Rattle.tdb_steps.specs.Asked.{stores};
 ghost use Rattle.tdb_steps.specs.Stages.{OfStore, Leads, IsIdle, CanCount};
 ghost use Rattle.tdb_steps.specs.Turns.{Makes, Stops, StoresRightly};
 ghost use Rattle.tdb_steps.specs.Order.{StoreOrder};
 ghost use Rattle.tdb_steps.specs.Memory.{StarvesBounded};
-ghost use Rattle.tdb_steps.specs.Reads.{TurnReads, look_reads};
+ghost use Rattle.tdb_steps.specs.Reads.{TurnReads, costs_of};
 ghost use Rattle.tdb_steps.specs.declared.plain.Plain.TheVariants.{Store};
 
 use crate::flag::Flag;
@@ -59,7 +61,8 @@ pub fn store_turn<S: Space>(
     ensures wrote { Wrote S.Space s.old s.new }
     ensures cause { HasCause (S.faults s.old) (S.faults s.new) result }
     ensures bytes_read { S.bytes_read s.old ≤ S.bytes_read s.new }
-    ensures reads { IsTrue S.tells → TurnReads (look_reads (S.form s.old) (S.image s.old) (Store key.now value.now flag)) 0 stage (S.bytes_read s.old) (S.bytes_read s.new) }
+    ensures reads { IsTrue S.tells → S.size s.old < 2 ^ 32 → (hands : List HandPair) → AcceptWith (S.form s.old) (S.image s.old) hands
+        → TurnReads (costs_of (S.form s.old) (S.image s.old) (Store key.now value.now flag) None) 0 stage (S.bytes_read s.old) (S.bytes_read s.new) }
 {
     match stage {
         Stage::Begun => Ok(Next::Step(Stage::Chained)),

@@ -1,12 +1,15 @@
 // The turn that takes a record from the free list for the value of a key.
 
 ghost use Rattle.std.specs.Prelude.{◌≡◌, ◌≤◌, ◌<◌, ◌+◌, ◌^◌, ℕ, List, [], IsTrue, IfOk, IfSome, OnErr};
-ghost use Rattle.tdb_disk.specs.Count.{HasCause};
+ghost use Rattle.tdb_disk.specs.Count.{HasCause, RoseUpTo};
 ghost use Rattle.tdb_space.specs.Frame.{Wrote};
+ghost use Rattle.tdb_space.specs.Chain.{free_of};
 ghost use Rattle.tdb_space.specs.Extents.{HandPair};
 ghost use Rattle.tdb_space.specs.Accepted.{AcceptWith};
 ghost use Rattle.tdb_space.specs.NewRecord.{rec_len_for};
 ghost use Rattle.tdb_chain.specs.Place.{StandsWithin};
+ghost use Rattle.tdb_free.specs.FreeList.{free_pairs};
+ghost use Rattle.tdb_free.specs.Reads.{take_reads};
 ghost use Rattle.tdb_steps.specs.Asked.{Asked};
 ghost use Rattle.tdb_steps.specs.Stages.{OfStore, Leads};
 ghost use Rattle.tdb_steps.specs.Turns.{Makes, TurnStopped, TakesRightly};
@@ -50,6 +53,8 @@ pub(crate) fn take_new<S: Space>(
     ensures wrote { Wrote S.Space s.old s.new }
     ensures cause { HasCause (S.faults s.old) (S.faults s.new) result }
     ensures bytes_read { S.bytes_read s.old ≤ S.bytes_read s.new }
+    ensures reads { IsTrue S.tells → S.size s.old < 2 ^ 32 → (hands : List HandPair) → AcceptWith (S.form s.old) (S.image s.old) hands
+        → RoseUpTo (take_reads (rec_len_for key_len value_len) (free_pairs (S.form s.old) (S.image s.old) (free_of (S.form s.old) (S.image s.old)))) (S.bytes_read s.old) (S.bytes_read s.new) }
 {
     let rec_len = rec_len_for(key_len as u64, value_len as u64);
     let writes = (24 + rec_len / 4096) as u32;

@@ -1,12 +1,13 @@
 // The turn of a delete that takes the record of a key out of its chain.
 
 ghost use Rattle.std.specs.Prelude.{◌≡◌, ◌≤◌, ◌⊎◌, ℕ, List, [], IsTrue, IfOk, OnErr, Some};
-ghost use Rattle.tdb_disk.specs.Count.{HasCause};
+ghost use Rattle.tdb_disk.specs.Count.{HasCause, RoseUpTo};
 ghost use Rattle.tdb_space.specs.Frame.{Wrote};
 ghost use Rattle.tdb_space.specs.Extents.{HandPair};
 ghost use Rattle.tdb_space.specs.Accepted.{AcceptWith};
 ghost use Rattle.tdb_chain.specs.Place.{StandsWithin, HoldsKey};
 ghost use Rattle.tdb_chain.specs.Changed.{hand_at};
+ghost use Rattle.tdb_chain.specs.Reads.{write_reads};
 ghost use Rattle.tdb_locks.specs.declared.turn.Reply.TheVariants as Reply;
 ghost use Rattle.tdb_steps.specs.Asked.{deletes};
 ghost use Rattle.tdb_steps.specs.Stages.{OfDelete, Leads};
@@ -36,7 +37,7 @@ pub(crate) fn unlink_found<S: Space>(s: &mut S, place: Place) -> Result<Next, Io
     ensures size { S.size s.new ≡ S.size s.old }
     ensures wrote { Wrote S.Space s.old s.new }
     ensures cause { HasCause (S.faults s.old) (S.faults s.new) result }
-    ensures bytes_read { S.bytes_read s.old ≤ S.bytes_read s.new }
+    ensures bytes_read { RoseUpTo (write_reads 1 4) (S.bytes_read s.old) (S.bytes_read s.new) }
 {
     let Ok(()) = s.ready(7, 48) else {
         return Ok(Next::Done(Reply::Memory));

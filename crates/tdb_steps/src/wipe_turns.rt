@@ -1,7 +1,7 @@
 // The turns of a wipe.
 
-ghost use Rattle.std.specs.Prelude.{◌≡◌, ◌≤◌, ◌<◌, ◌^◌, ◌++◌, [], List, IsTrue, IfOk, OnErr};
-ghost use Rattle.tdb_disk.specs.Count.{HasCause};
+ghost use Rattle.std.specs.Prelude.{◌≡◌, ◌≤◌, ◌<◌, ◌^◌, ◌++◌, [], None, List, IsTrue, IfOk, OnErr};
+ghost use Rattle.tdb_disk.specs.Count.{HasCause, RoseUpTo};
 ghost use Rattle.tdb_space.specs.Frame.{Looked, Wrote};
 ghost use Rattle.tdb_space.specs.Accepted.{AcceptWith};
 ghost use Rattle.tdb_space.specs.Extents.{HandPair};
@@ -10,9 +10,10 @@ ghost use Rattle.tdb_steps.specs.Stages.{hands_in, MayBeOut, OfWipe, Leads, IsId
 ghost use Rattle.tdb_steps.specs.Turns.{WipeMakes, WipesRightly};
 ghost use Rattle.tdb_steps.specs.Order.{WipeOrder};
 ghost use Rattle.tdb_steps.specs.Memory.{StarvesBounded};
+ghost use Rattle.tdb_steps.specs.declared.plain.Plain.TheVariants as Plain;
 ghost use Rattle.tdb_steps.specs.declared.stage.Stage.TheVariants as Stage;
 ghost use Rattle.tdb_steps.specs.declared.stage.WipeStage.TheVariants as WipeStage;
-ghost use Rattle.tdb_steps.specs.Reads.{TurnReads};
+ghost use Rattle.tdb_steps.specs.Reads.{TurnReads, costs_of, wipe_reads};
 
 use crate::stage::{Next, Stage, WipeStage};
 use crate::wiping::{wipe, wipe_bytes, wipe_writes};
@@ -40,7 +41,7 @@ pub fn wipe_turn<S: Space>(stage: Stage, s: &mut S) -> Result<Next, Io>
     ensures wrote { Wrote S.Space s.old s.new }
     ensures cause { HasCause (S.faults s.old) (S.faults s.new) result }
     ensures bytes_read { S.bytes_read s.old ≤ S.bytes_read s.new }
-    ensures reads { TurnReads 0 0 stage (S.bytes_read s.old) (S.bytes_read s.new) }
+    ensures reads { TurnReads (costs_of (S.form s.old) (S.image s.old) Plain.Wipe None) 0 stage (S.bytes_read s.old) (S.bytes_read s.new) }
 {
     match stage {
         Stage::Begun => Ok(Next::Step(Stage::Wiping(WipeStage::Records))),
@@ -69,7 +70,7 @@ fn wipe_all<S: Space>(s: &mut S) -> Result<Next, Io>
     ensures size { S.size s.new ≡ S.size s.old }
     ensures wrote { Wrote S.Space s.old s.new }
     ensures cause { HasCause (S.faults s.old) (S.faults s.new) result }
-    ensures bytes_read { S.bytes_read s.old ≤ S.bytes_read s.new }
+    ensures bytes_read { RoseUpTo (wipe_reads (S.form s.old).chains) (S.bytes_read s.old) (S.bytes_read s.new) }
 {
     let chains = s.hash_size();
     let Ok(()) = s.ready(wipe_writes(chains) + 1, wipe_bytes(chains) + 4) else {

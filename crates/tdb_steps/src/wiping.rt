@@ -9,7 +9,9 @@ ghost use Rattle.tdb_space.specs.Form.{data_start, free_head};
 ghost use Rattle.tdb_space.specs.Accepted.{AcceptWith, AreaOk};
 ghost use Rattle.tdb_space.specs.Spare.{RoomForAll};
 ghost use Rattle.tdb_space.specs.SpareLeft.{LeavesRoom};
+ghost use Rattle.tdb_chain.specs.Reads.{write_reads};
 ghost use Rattle.tdb_steps.specs.Wiped.{Wiped, WipeStopped, FrontSame, IsArea, BoundsStand, MadeFree, HeadsZeroed, FreedAround, AroundStays, wipe_writes, wipe_bytes};
+ghost use Rattle.tdb_steps.specs.Reads.{wipe_reads};
 
 use tdb_space::{FREE_HEAD, Io, Space, data_start, header_stands, read_word};
 use tdb_words::{FREE, Rec, rec_bytes, word_bytes};
@@ -89,7 +91,7 @@ fn zero_heads<S: Space>(s: &mut S) -> Result<(), Io>
     ensures size { S.size s.new ≡ S.size s.old }
     ensures wrote { Wrote S.Space s.old s.new }
     ensures cause { HasCause (S.faults s.old) (S.faults s.new) result }
-    ensures bytes_read { S.bytes_read s.old ≤ S.bytes_read s.new }
+    ensures bytes_read { RoseUpTo (write_reads ((S.form s.old).chains / 1024 + 1) (4 * (S.form s.old).chains + 4)) (S.bytes_read s.old) (S.bytes_read s.new) }
     ensures spare { LeavesRoom ((S.form s.old).chains / 1024 + 1) (4 * (S.form s.old).chains + 4) (S.spare s.old) (S.spare s.new) }
 {
     let zeros = [0u8; BLOCK];
@@ -113,7 +115,7 @@ fn blank<S: Space>(s: &mut S, from: u32, count: u32) -> Result<(), Io>
     ensures size { S.size s.new ≡ S.size s.old }
     ensures wrote { Wrote S.Space s.old s.new }
     ensures cause { HasCause (S.faults s.old) (S.faults s.new) result }
-    ensures bytes_read { S.bytes_read s.old ≤ S.bytes_read s.new }
+    ensures bytes_read { RoseUpTo (write_reads 2 28) (S.bytes_read s.old) (S.bytes_read s.new) }
     ensures spare { LeavesRoom 2 28 (S.spare s.old) (S.spare s.new) }
 {
     if count == 0 {
@@ -135,7 +137,7 @@ fn free_record<S: Space>(s: &mut S, from: u32, count: u32, next: u32) -> Result<
     ensures size { S.size s.new ≡ S.size s.old }
     ensures wrote { Wrote S.Space s.old s.new }
     ensures cause { HasCause (S.faults s.old) (S.faults s.new) result }
-    ensures bytes_read { S.bytes_read s.old ≤ S.bytes_read s.new }
+    ensures bytes_read { RoseUpTo (write_reads 2 28) (S.bytes_read s.old) (S.bytes_read s.new) }
     ensures spare { LeavesRoom 2 28 (S.spare s.old) (S.spare s.new) }
 {
     let order = s.order();
@@ -163,7 +165,7 @@ fn free_stretch<S: Space>(s: &mut S, from: u32, count: u32, next: u32) -> Result
     ensures size { S.size s.new ≡ S.size s.old }
     ensures wrote { Wrote S.Space s.old s.new }
     ensures cause { HasCause (S.faults s.old) (S.faults s.new) result }
-    ensures bytes_read { S.bytes_read s.old ≤ S.bytes_read s.new }
+    ensures bytes_read { RoseUpTo (write_reads 2 28) (S.bytes_read s.old) (S.bytes_read s.new) }
     ensures spare { LeavesRoom 2 28 (S.spare s.old) (S.spare s.new) }
 {
     if count < LEAST {
@@ -187,7 +189,7 @@ fn free_around<S: Space>(s: &mut S, len: u32, area: AreaBounds) -> Result<(), Io
     ensures size { S.size s.new ≡ S.size s.old }
     ensures wrote { Wrote S.Space s.old s.new }
     ensures cause { HasCause (S.faults s.old) (S.faults s.new) result }
-    ensures bytes_read { S.bytes_read s.old ≤ S.bytes_read s.new }
+    ensures bytes_read { RoseUpTo (write_reads 5 60) (S.bytes_read s.old) (S.bytes_read s.new) }
     ensures spare { LeavesRoom 5 60 (S.spare s.old) (S.spare s.new) }
 {
     let start = data_start(s.hash_size()) as u32;
@@ -216,7 +218,7 @@ pub fn wipe<S: Space>(s: &mut S) -> Result<(), Io>
     ensures size { S.size s.new ≡ S.size s.old }
     ensures wrote { Wrote S.Space s.old s.new }
     ensures cause { HasCause (S.faults s.old) (S.faults s.new) result }
-    ensures bytes_read { S.bytes_read s.old ≤ S.bytes_read s.new }
+    ensures bytes_read { RoseUpTo (wipe_reads (S.form s.old).chains) (S.bytes_read s.old) (S.bytes_read s.new) }
     ensures spare { LeavesRoom (wipe_writes (S.form s.old).chains) (wipe_bytes (S.form s.old).chains) (S.spare s.old) (S.spare s.new) }
 {
     let len = s.len()?;

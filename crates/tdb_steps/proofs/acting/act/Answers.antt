@@ -6,7 +6,7 @@ use Rattle.tdb_space.specs.NewRecord.{rec_len_for}
 use Rattle.tdb_steps.specs.Asked.{fetches, asks, stores, appends, deletes}
 use Rattle.tdb_steps.specs.Turns.{Makes, TurnStopped, AppendMakes, StoresRightly, AppendsRightly, DeletesRightly, LooksRightly}
 use Rattle.tdb_steps.specs.Machines.{CommandMakes, CommandStops, CommandRightly}
-use Rattle.tdb_steps.specs.Reads.{look_reads, TurnReads}
+use Rattle.tdb_steps.specs.Reads.{costs_of, TurnReads}
 use Rattle.tdb_steps.specs.declared.plain.Plain.TheVariants as Plain
 use Rattle.tdb_space.specs.Extents.{HandPair}
 use Rattle.tdb_space.specs.Accepted.{AcceptWith}
@@ -189,43 +189,43 @@ returns-in-Wipe-clause-stopped g c =
 
 -- and it reads what they do
 pub returns-in-Fetch-clause-reads : goal.returns-in-Fetch-clause-reads
-returns-in-Fetch-clause-reads g c told hands A =
+returns-in-Fetch-clause-reads g c told small hands A =
     let f = g.S.Space.form c.args.s.now in
     let img = g.S.Space.image c.args.s.now in
-    subst (λ command. TurnReads (look_reads f img command) 0 c.args.stage (g.S.Space.bytes_read c.args.s.now) (g.S.Space.bytes_read c.fetch_turn.new.s)) (sym c.in-Fetch.is)
-    (subst (λ x. TurnReads (look_reads f img (Plain.Fetch x)) 0 c.args.stage (g.S.Space.bytes_read c.args.s.now) (g.S.Space.bytes_read c.fetch_turn.new.s)) c.as_slice.ensures (c.fetch_turn.ensures.reads told hands A))
+    subst (λ command. TurnReads (costs_of f img command c.args.whole.now) 0 c.args.stage (g.S.Space.bytes_read c.args.s.now) (g.S.Space.bytes_read c.fetch_turn.new.s)) (sym c.in-Fetch.is)
+    (subst (λ x. TurnReads (costs_of f img (Plain.Fetch x) c.args.whole.now) 0 c.args.stage (g.S.Space.bytes_read c.args.s.now) (g.S.Space.bytes_read c.fetch_turn.new.s)) c.as_slice.ensures (c.fetch_turn.ensures.reads told small hands A))
 
 pub returns-in-Has-clause-reads : goal.returns-in-Has-clause-reads
-returns-in-Has-clause-reads g c told hands A =
+returns-in-Has-clause-reads g c told small hands A =
     let f = g.S.Space.form c.args.s.now in
     let img = g.S.Space.image c.args.s.now in
-    subst (λ command. TurnReads (look_reads f img command) 0 c.args.stage (g.S.Space.bytes_read c.args.s.now) (g.S.Space.bytes_read c.has_turn.new.s)) (sym c.in-Has.is)
-    (subst (λ x. TurnReads (look_reads f img (Plain.Has x)) 0 c.args.stage (g.S.Space.bytes_read c.args.s.now) (g.S.Space.bytes_read c.has_turn.new.s)) c.as_slice-in-Has.ensures (c.has_turn.ensures.reads told hands A))
+    subst (λ command. TurnReads (costs_of f img command c.args.whole.now) 0 c.args.stage (g.S.Space.bytes_read c.args.s.now) (g.S.Space.bytes_read c.has_turn.new.s)) (sym c.in-Has.is)
+    (subst (λ x. TurnReads (costs_of f img (Plain.Has x) c.args.whole.now) 0 c.args.stage (g.S.Space.bytes_read c.args.s.now) (g.S.Space.bytes_read c.has_turn.new.s)) c.as_slice-in-Has.ensures (c.has_turn.ensures.reads told small hands A))
 
 pub returns-in-Store-clause-reads : goal.returns-in-Store-clause-reads
-returns-in-Store-clause-reads g c told hands A =
+returns-in-Store-clause-reads g c told small hands A =
     let f = g.S.Space.form c.args.s.now in
     let img = g.S.Space.image c.args.s.now in
-    subst (λ command. TurnReads (look_reads f img command) 0 c.args.stage (g.S.Space.bytes_read c.args.s.now) (g.S.Space.bytes_read c.store_turn.new.s)) (sym c.in-Store.is)
-    (subst (λ x. TurnReads (look_reads f img (Plain.Store c.in-Store.key x c.in-Store.flag)) 0 c.args.stage (g.S.Space.bytes_read c.args.s.now) (g.S.Space.bytes_read c.store_turn.new.s)) c.as_slice-in-Store-2.ensures (subst (λ x. TurnReads (look_reads f img (Plain.Store x c.as_slice-in-Store-2.result.now c.in-Store.flag)) 0 c.args.stage (g.S.Space.bytes_read c.args.s.now) (g.S.Space.bytes_read c.store_turn.new.s)) c.as_slice-in-Store.ensures (c.store_turn.ensures.reads told)))
+    subst (λ command. TurnReads (costs_of f img command c.args.whole.now) 0 c.args.stage (g.S.Space.bytes_read c.args.s.now) (g.S.Space.bytes_read c.store_turn.new.s)) (sym c.in-Store.is)
+    (subst (λ x. TurnReads (costs_of f img (Plain.Store c.in-Store.key x c.in-Store.flag) c.args.whole.now) 0 c.args.stage (g.S.Space.bytes_read c.args.s.now) (g.S.Space.bytes_read c.store_turn.new.s)) c.as_slice-in-Store-2.ensures (subst (λ x. TurnReads (costs_of f img (Plain.Store x c.as_slice-in-Store-2.result.now c.in-Store.flag) c.args.whole.now) 0 c.args.stage (g.S.Space.bytes_read c.args.s.now) (g.S.Space.bytes_read c.store_turn.new.s)) c.as_slice-in-Store.ensures (c.store_turn.ensures.reads told small hands A)))
 
 pub returns-in-Append-clause-reads : goal.returns-in-Append-clause-reads
-returns-in-Append-clause-reads g c told hands A =
+returns-in-Append-clause-reads g c told small hands A =
     let f = g.S.Space.form c.args.s.now in
     let img = g.S.Space.image c.args.s.now in
-    subst (λ command. TurnReads (look_reads f img command) 0 c.args.stage (g.S.Space.bytes_read c.args.s.now) (g.S.Space.bytes_read c.append_turn.new.s)) (sym c.in-Append.is)
-    (subst (λ x. TurnReads (look_reads f img (Plain.Append c.in-Append.key x)) 0 c.args.stage (g.S.Space.bytes_read c.args.s.now) (g.S.Space.bytes_read c.append_turn.new.s)) c.as_slice-in-Append-2.ensures (subst (λ x. TurnReads (look_reads f img (Plain.Append x c.as_slice-in-Append-2.result.now)) 0 c.args.stage (g.S.Space.bytes_read c.args.s.now) (g.S.Space.bytes_read c.append_turn.new.s)) c.as_slice-in-Append.ensures (c.append_turn.ensures.reads told hands A)))
+    subst (λ command. TurnReads (costs_of f img command c.args.whole.now) 0 c.args.stage (g.S.Space.bytes_read c.args.s.now) (g.S.Space.bytes_read c.append_turn.new.s)) (sym c.in-Append.is)
+    (subst (λ x. TurnReads (costs_of f img (Plain.Append c.in-Append.key x) c.args.whole.now) 0 c.args.stage (g.S.Space.bytes_read c.args.s.now) (g.S.Space.bytes_read c.append_turn.new.s)) c.as_slice-in-Append-2.ensures (subst (λ x. TurnReads (costs_of f img (Plain.Append x c.as_slice-in-Append-2.result.now) c.args.whole.now) 0 c.args.stage (g.S.Space.bytes_read c.args.s.now) (g.S.Space.bytes_read c.append_turn.new.s)) c.as_slice-in-Append.ensures (c.append_turn.ensures.reads told small hands A)))
 
 pub returns-in-Delete-clause-reads : goal.returns-in-Delete-clause-reads
-returns-in-Delete-clause-reads g c told hands A =
+returns-in-Delete-clause-reads g c told small hands A =
     let f = g.S.Space.form c.args.s.now in
     let img = g.S.Space.image c.args.s.now in
-    subst (λ command. TurnReads (look_reads f img command) 0 c.args.stage (g.S.Space.bytes_read c.args.s.now) (g.S.Space.bytes_read c.delete_turn.new.s)) (sym c.in-Delete.is)
-    (subst (λ x. TurnReads (look_reads f img (Plain.Delete x)) 0 c.args.stage (g.S.Space.bytes_read c.args.s.now) (g.S.Space.bytes_read c.delete_turn.new.s)) c.as_slice-in-Delete.ensures (c.delete_turn.ensures.reads told))
+    subst (λ command. TurnReads (costs_of f img command c.args.whole.now) 0 c.args.stage (g.S.Space.bytes_read c.args.s.now) (g.S.Space.bytes_read c.delete_turn.new.s)) (sym c.in-Delete.is)
+    (subst (λ x. TurnReads (costs_of f img (Plain.Delete x) c.args.whole.now) 0 c.args.stage (g.S.Space.bytes_read c.args.s.now) (g.S.Space.bytes_read c.delete_turn.new.s)) c.as_slice-in-Delete.ensures (c.delete_turn.ensures.reads told small hands A))
 
 pub returns-in-Wipe-clause-reads : goal.returns-in-Wipe-clause-reads
-returns-in-Wipe-clause-reads g c told hands A =
-    subst (λ command. TurnReads (look_reads (g.S.Space.form c.args.s.now) (g.S.Space.image c.args.s.now) command) 0 c.args.stage (g.S.Space.bytes_read c.args.s.now) (g.S.Space.bytes_read c.wipe_turn.new.s)) (sym c.in-Wipe.is) c.wipe_turn.ensures.reads
+returns-in-Wipe-clause-reads g c told small hands A =
+    subst (λ command. TurnReads (costs_of (g.S.Space.form c.args.s.now) (g.S.Space.image c.args.s.now) command c.args.whole.now) 0 c.args.stage (g.S.Space.bytes_read c.args.s.now) (g.S.Space.bytes_read c.wipe_turn.new.s)) (sym c.in-Wipe.is) c.wipe_turn.ensures.reads
 
 -- over a disk it ends for want of memory only where it takes a value
 pub returns-in-Fetch-clause-starves : goal.returns-in-Fetch-clause-starves

@@ -1,5 +1,5 @@
 -- The look of an append, and its other turns.
-use Rattle.std.proofs.Common.{◌≡◌, ◌<◌, ◌⊎◌, List, length, refl, sym, subst}
+use Rattle.std.proofs.Common.{◌≡◌, ◌<◌, ◌⊎◌, List, None, length, refl, sym, subst, arith}
 use Rattle.std.specs.Prelude.{◌^◌, IsTrue, IfOk, OnErr, unwrap_or}
 use Rattle.std.proofs.lemmas.Result.{IfOk-weaker, on_err_weaker}
 use Rattle.tdb_space.specs.Extents.{HandPair}
@@ -10,12 +10,15 @@ use Rattle.tdb_steps.specs.Asked.{appends, joined, stores}
 use Rattle.tdb_steps.specs.Turns.{Makes, Stops, AppendMakes, Finds, UpdatesRightly, StoresRightly, AppendsRightly}
 use Rattle.tdb_steps.specs.Order.{StoreOrder, LooksOn}
 use Rattle.tdb_steps.specs.Memory.{StarvesBounded, StarvesRightly}
+use Rattle.tdb_steps.specs.Reads.{costs_of, TurnReads}
 use Rattle.tdb_steps.specs.declared.plain.Plain.TheVariants.{Append}
+use Rattle.tdb_steps.specs.declared.plain.Plain.TheVariants as Plain
 use Rattle.tdb_steps.specs.declared.flag.Flag.TheVariants as Flags
 use Rattle.tdb_steps.specs.declared.stage.Stage.TheVariants as Stage
 use Rattle.tdb_steps.specs.declared.stage.Next.TheVariants as Next
 use Rattle.tdb_locks.specs.declared.turn.Reply.TheVariants as Reply
 use Rattle.tdb_steps.proofs.Made.{of_both}
+use Rattle.tdb_steps.proofs.Reading.{other_turn}
 use Rattle.tdb_steps.proofs.Appended.{look_appended, store_appended, look_rightly, store_rightly}
 use Rattle.tdb_steps.proofs.Starving.{append_looks, bounded_starves}
 use Rattle.tdb_steps.proofs.append_turns.append_turn.Goals as goal
@@ -80,7 +83,9 @@ returns-in_default g c =
       wrote = c.store_joined.ensures.wrote;
       cause = c.store_joined.ensures.cause;
       bytes_read = c.store_joined.ensures.bytes_read;
-      reads = λ told hands A. c.store_joined.ensures.reads told _ c.in_default.not-Chained;
+      reads = λ told small hands A.
+          other_turn (costs_of f a (Plain.Append key more) whole) (costs_of f a (Plain.Store key (unwrap_or whole more) Flags.Replace) None) 0 c.args.stage (g.S.Space.bytes_read c.args.s.now) (g.S.Space.bytes_read c.store_joined.new.s)
+          (record { taking = refl; giving = refl; wiping = refl }) c.in_default.not-Chained (c.store_joined.ensures.reads told small hands A);
     }
 
 pub returns-in-Chained-clause-stopped : goal.returns-in-Chained-clause-stopped
@@ -90,6 +95,14 @@ returns-in-Chained-clause-stopped g c =
     let b = g.S.Space.image c.look_to_append.new.s in
     subst (λ then. OnErr c.look_to_append.result (IsTrue g.S.Space.tells → g.S.Space.size c.args.s.now < 2 ^ 32 → Stops f a b c.args.key.now then)) (sym c.in-Chained.is)
     (on_err_weaker c.look_to_append.result (λ stopped told small asked others A known. stopped told others A) c.look_to_append.ensures.stopped)
+
+pub returns-in-Chained-clause-reads : goal.returns-in-Chained-clause-reads
+returns-in-Chained-clause-reads g c told small hands A =
+    let f = g.S.Space.form c.args.s.now in
+    let a = g.S.Space.image c.args.s.now in
+    let look = c.look_to_append.ensures.reads told hands A in
+    subst (λ stage. TurnReads (costs_of f a (Plain.Append c.args.key.now c.args.more.now) c.args.whole.now) 0 stage (g.S.Space.bytes_read c.args.s.now) (g.S.Space.bytes_read c.look_to_append.new.s)) (sym c.in-Chained.is)
+    (record { no_more = omega (arith, look.no_more); never_falls = look.never_falls })
 
 -- the look takes a value
 pub returns-in-Chained-clause-starves : goal.returns-in-Chained-clause-starves

@@ -1,7 +1,8 @@
 -- The old record goes into the free list, and no chain changes.
 use Rattle.std.proofs.Common.{◌<◌, ◌^◌, [], ◌∷◌, length, refl, arith}
 use Rattle.tdb_space.specs.Chain.{free_of}
-use Rattle.tdb_free.proofs.Accepted.{can_be_given}
+use Rattle.tdb_free.proofs.Accepted.{can_be_given, can_be_taken}
+use Rattle.tdb_free.proofs.Costs.{beside_most}
 use Rattle.tdb_free.proofs.Traded.{given_stays}
 use Rattle.tdb_steps.proofs.Made.{stays_made, number_same}
 use Rattle.tdb_steps.specs.declared.stage.Stage.TheVariants as Stage
@@ -29,3 +30,16 @@ returns-in-Err-clause-stopped g c told small key others A =
     let h = c.args.hand in
     let short : length a < 2 ^ 32 = omega (arith, g.met.S.Space.told_size c.args.s.now told, small) in
     stopped_list f a b (h ∷ []) (h ∷ others) A (λ i. omega arith) (c.give.ensures.only told (free_of f a) (can_be_given f a h others A short)) key
+
+-- what was read along the list
+pub returns-in-Ok-clause-reads : goal.returns-in-Ok-clause-reads
+returns-in-Ok-clause-reads g c told hands A =
+    let f = g.S.Space.form c.args.s.now in
+    let a = g.S.Space.image c.args.s.now in
+    c.give.ensures.walked told (free_of f a) (can_be_taken f a hands A).list (length (free_of f a)) (beside_most f a (free_of f a) c.args.hand)
+
+pub returns-in-Err-clause-reads : goal.returns-in-Err-clause-reads
+returns-in-Err-clause-reads g c told hands A =
+    let f = g.S.Space.form c.args.s.now in
+    let a = g.S.Space.image c.args.s.now in
+    c.give.ensures.walked told (free_of f a) (can_be_taken f a hands A).list (length (free_of f a)) (beside_most f a (free_of f a) c.args.hand)

@@ -1,11 +1,14 @@
 -- A record is taken, or none can be.
 use Rattle.std.proofs.Common.{◌+◌, ◌<◌, ◌^◌, [], ◌∷◌, ℕ, List, length, refl, sym, ◌∙◌, ap, subst, arith}
+use Rattle.tdb_disk.specs.Count.{RoseUpTo}
 use Rattle.tdb_space.specs.Chain.{free_of}
 use Rattle.tdb_space.specs.Extents.{HandPair}
 use Rattle.tdb_space.specs.Accepted.{AcceptWith}
 use Rattle.tdb_space.specs.Stays.{ChainsStay}
 use Rattle.tdb_space.specs.NewRecord.{rec_len_for}
 use Rattle.tdb_free.proofs.Traded.{can_take}
+use Rattle.tdb_free.specs.FreeList.{free_pairs}
+use Rattle.tdb_free.specs.Reads.{take_reads}
 use Rattle.tdb_free.specs.Growth.{CanBeTaken, TakenBy}
 use Rattle.tdb_free.specs.OnlyList.{OnlyListChanges}
 use Rattle.tdb_steps.proofs.Made.{moved, number_same, took_made, full_made, no_room, said_lengths}
@@ -72,6 +75,37 @@ returns-in-Err-Io-clause-stopped g c told small key others A =
     stopped_list f a b [] others A (λ i. omega arith)
     (moved (λ x img. (offs : List ℕ) → CanBeTaken x img offs → OnlyListChanges x img b offs []) f (g.S.Space.form c.ready.new.self) a (g.S.Space.image c.ready.new.self) c.ready.ensures.form c.ready.ensures.image (c.take.ensures.only told) (free_of f a) (can_take f a others A short))
     key
+
+-- what was read
+pub returns-in-Ok-take-clause-reads : goal.returns-in-Ok-take-clause-reads
+returns-in-Ok-take-clause-reads g c told small hands A =
+    let f = g.S.Space.form c.args.s.now in
+    let a = g.S.Space.image c.args.s.now in
+    let short : length a < 2 ^ 32 = omega (arith, g.met.S.Space.told_size c.args.s.now told, small) in
+    let took = moved (λ x img. (offs : List ℕ) → CanBeTaken x img offs → RoseUpTo (take_reads c.rec_len_for-rec_len.result (free_pairs x img offs)) (g.S.Space.bytes_read c.ready.new.self) (g.S.Space.bytes_read c.take.new.s)) f (g.S.Space.form c.ready.new.self) a (g.S.Space.image c.ready.new.self)
+    c.ready.ensures.form c.ready.ensures.image (c.take.ensures.reads told) (free_of f a) (can_take f a hands A short) in
+    let same = ap (λ m. take_reads m (free_pairs f a (free_of f a))) c.rec_len_for-rec_len.ensures in
+    record { no_more = omega (arith, took.no_more, same, c.ready.ensures.bytes_read); never_falls = omega (arith, took.never_falls, c.ready.ensures.bytes_read) }
+
+pub returns-in-Err-Full-clause-reads : goal.returns-in-Err-Full-clause-reads
+returns-in-Err-Full-clause-reads g c told small hands A =
+    let f = g.S.Space.form c.args.s.now in
+    let a = g.S.Space.image c.args.s.now in
+    let short : length a < 2 ^ 32 = omega (arith, g.met.S.Space.told_size c.args.s.now told, small) in
+    let took = moved (λ x img. (offs : List ℕ) → CanBeTaken x img offs → RoseUpTo (take_reads c.rec_len_for-rec_len.result (free_pairs x img offs)) (g.S.Space.bytes_read c.ready.new.self) (g.S.Space.bytes_read c.take.new.s)) f (g.S.Space.form c.ready.new.self) a (g.S.Space.image c.ready.new.self)
+    c.ready.ensures.form c.ready.ensures.image (c.take.ensures.reads told) (free_of f a) (can_take f a hands A short) in
+    let same = ap (λ m. take_reads m (free_pairs f a (free_of f a))) c.rec_len_for-rec_len.ensures in
+    record { no_more = omega (arith, took.no_more, same, c.ready.ensures.bytes_read); never_falls = omega (arith, took.never_falls, c.ready.ensures.bytes_read) }
+
+pub returns-in-Err-Io-clause-reads : goal.returns-in-Err-Io-clause-reads
+returns-in-Err-Io-clause-reads g c told small hands A =
+    let f = g.S.Space.form c.args.s.now in
+    let a = g.S.Space.image c.args.s.now in
+    let short : length a < 2 ^ 32 = omega (arith, g.met.S.Space.told_size c.args.s.now told, small) in
+    let took = moved (λ x img. (offs : List ℕ) → CanBeTaken x img offs → RoseUpTo (take_reads c.rec_len_for-rec_len.result (free_pairs x img offs)) (g.S.Space.bytes_read c.ready.new.self) (g.S.Space.bytes_read c.take.new.s)) f (g.S.Space.form c.ready.new.self) a (g.S.Space.image c.ready.new.self)
+    c.ready.ensures.form c.ready.ensures.image (c.take.ensures.reads told) (free_of f a) (can_take f a hands A short) in
+    let same = ap (λ m. take_reads m (free_pairs f a (free_of f a))) c.rec_len_for-rec_len.ensures in
+    record { no_more = omega (arith, took.no_more, same, c.ready.ensures.bytes_read); never_falls = omega (arith, took.never_falls, c.ready.ensures.bytes_read) }
 
 -- where the room has no bound, it could be made
 pub returns-in_default-clause-starves : goal.returns-in_default-clause-starves

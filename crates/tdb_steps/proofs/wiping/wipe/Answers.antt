@@ -1,10 +1,12 @@
 -- The heads, and then the stretches.
-use Rattle.std.proofs.Common.{◌≡◌, ◌∙◌, sym, subst, arith, length}
-use Rattle.std.specs.Prelude.{MatchOption, IfSome, ◌⊎◌}
+use Rattle.std.proofs.Common.{◌≡◌, ◌+◌, ◌*◌, ◌∙◌, ap, sym, subst, arith, length}
+use Rattle.std.specs.Prelude.{MatchOption, IfSome, ◌⊎◌, ◌/◌}
 use Rattle.std.proofs.lemmas.Result.{on_ok_weaker, on_err_weaker}
+use Rattle.tdb_disk.specs.Count.{RoseUpTo}
 use Rattle.tdb_words.specs.Word.{word}
 use Rattle.tdb_space.specs.Form.{free_head}
 use Rattle.tdb_space.specs.Accepted.{AreaOk}
+use Rattle.tdb_chain.specs.Reads.{write_reads}
 use Rattle.tdb_steps.specs.Wiped.{IsArea, BoundsStand, HeadsZeroed, FreedAround, AroundStays}
 use Rattle.tdb_steps.proofs.Made.{moved}
 use Rattle.tdb_steps.proofs.WipeSteps.{around_wiped, around_stopped}
@@ -62,3 +64,22 @@ returns-clause-stopped g c = on_err_weaker c.free_around.result (λ stopped told
     let R : AroundStays f m b p = subst (λ x. AroundStays x m b p) e3 (c.free_around.ensures.stays told) in
     around_stopped f a m b p A B P H R
     (subst (λ x. (word x.order b free_head ≡ word x.order m free_head) ⊎ FreedAround x m b p) e3 (stopped told)))) c.free_around.ensures.stopped
+
+-- what was read where something is written
+pub returns-in_err-zero_heads-clause-bytes_read : goal.returns-in_err-zero_heads-clause-bytes_read
+returns-in_err-zero_heads-clause-bytes_read g c =
+    let chains : (g.S.Space.form c.area_bounds.new.s).chains ≡ (g.S.Space.form c.args.s.now).chains = ap (λ x. x.chains) (c.area_bounds.ensures.looked.form ∙ c.len.ensures.form) in
+    let heads = subst (λ n. RoseUpTo (write_reads (n / 1024 + 1) (4 * n + 4)) (g.S.Space.bytes_read c.area_bounds.new.s) (g.S.Space.bytes_read c.zero_heads.new.s)) chains c.zero_heads.ensures.bytes_read in
+    record {
+      no_more = omega (arith, c.len.ensures.bytes_read, c.area_bounds.ensures.bytes_read.no_more, heads.no_more);
+      never_falls = omega (arith, c.len.ensures.bytes_read, c.area_bounds.ensures.bytes_read.never_falls, heads.never_falls);
+    }
+
+pub returns-clause-bytes_read : goal.returns-clause-bytes_read
+returns-clause-bytes_read g c =
+    let chains : (g.S.Space.form c.area_bounds.new.s).chains ≡ (g.S.Space.form c.args.s.now).chains = ap (λ x. x.chains) (c.area_bounds.ensures.looked.form ∙ c.len.ensures.form) in
+    let heads = subst (λ n. RoseUpTo (write_reads (n / 1024 + 1) (4 * n + 4)) (g.S.Space.bytes_read c.area_bounds.new.s) (g.S.Space.bytes_read c.zero_heads.new.s)) chains c.zero_heads.ensures.bytes_read in
+    record {
+      no_more = omega (arith, c.len.ensures.bytes_read, c.area_bounds.ensures.bytes_read.no_more, heads.no_more, c.free_around.ensures.bytes_read.no_more);
+      never_falls = omega (arith, c.len.ensures.bytes_read, c.area_bounds.ensures.bytes_read.never_falls, heads.never_falls, c.free_around.ensures.bytes_read.never_falls);
+    }

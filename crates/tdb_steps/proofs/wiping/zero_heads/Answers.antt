@@ -39,6 +39,20 @@ returns-in_err-write-clause-spare g c =
     room_more old new (w + 1) (done + n) (chains / 1024 + 1) (4 * chains + 4) fewer shorter
     (room_then old mid new w done 1 n v.spare (room_tried mid new n (subst (λ k. SpentUpTo mid k new) long c.in_err-write.ensures.spare)))
 
+pub returns-in_err-write-clause-bytes_read : goal.returns-in_err-write-clause-bytes_read
+returns-in_err-write-clause-bytes_read g c =
+    let v = c.loop-at.invariant in
+    let n = c.min-count.result in
+    let chains = (g.S.Space.form c.args.s.now).chains in
+    let w = (c.loop-at.at - 168 + 4095) / 4096 in
+    let long : length (zeros_of n 4096) ≡ n = zeros_long n 4096 (omega (arith, c.min-count.ensures)) in
+    let fewer : w + 1 ≤ chains / 1024 + 1 = elim v.blocks [ inl whole ↦ omega (arith, whole, v.low, c.loop-at-test.true, c.data_start-end.ensures, c.hash_size.ensures) | inr last ↦ absurd (omega (arith, last, c.loop-at-test.true, c.data_start-end.ensures, c.hash_size.ensures)) ] in
+    let shorter : c.loop-at.at - 168 + n ≤ 4 * chains + 4 = omega (arith, v.low, c.min-count.ensures, c.loop-at-test.true, c.data_start-end.ensures, c.hash_size.ensures) in
+    record {
+      no_more = omega (arith, v.bytes_read.no_more, c.write.ensures.bytes_read.no_more, long, fewer, shorter);
+      never_falls = omega (arith, v.bytes_read.never_falls, c.write.ensures.bytes_read.never_falls);
+    }
+
 pub loop-at-preserved : goal.loop-at-preserved
 loop-at-preserved g c =
     let v = c.loop-at.invariant in
@@ -87,9 +101,21 @@ loop-at-preserved g c =
         under = c.write.ensures.under ∙ v.wrote.under;
       };
       faults = search rules;
-      bytes_read = omega (arith, c.write.ensures.bytes_read.never_falls, v.bytes_read);
+      bytes_read =
+          (let more : w + 1 ≤ (at + n - 168 + 4095) / 4096 = elim v.blocks [ inl whole ↦ omega (arith, whole, some, v.low) | inr last ↦ absurd (omega (arith, last, c.loop-at-test.true, end)) ] in
+          record {
+            no_more = omega (arith, v.bytes_read.no_more, c.write.ensures.bytes_read.no_more, long, more, v.low);
+            never_falls = omega (arith, c.write.ensures.bytes_read.never_falls, v.bytes_read.never_falls);
+          });
       spare =
           room_more old new (w + 1) (done + n) ((at + n - 168 + 4095) / 4096) (at + n - 168)
           (elim v.blocks [ inl whole ↦ omega (arith, whole, some, v.low) | inr last ↦ absurd (omega (arith, last, c.loop-at-test.true, end)) ]) (omega (arith, v.low))
           (room_then old mid new w done 1 n v.spare (room_spent mid new n (c.in_ok-write.ensures.spare ∙ ap (spent mid) long)));
     }
+
+pub returns-clause-bytes_read : goal.returns-clause-bytes_read
+returns-clause-bytes_read g c =
+    let v = c.loop-at.invariant in
+    let chains = (g.S.Space.form c.args.s.now).chains in
+    let blocks : (c.loop-at.at - 168 + 4095) / 4096 ≤ chains / 1024 + 1 = omega (arith, v.low, v.high) in
+    record { no_more = omega (arith, v.bytes_read.no_more, v.low, v.high, blocks); never_falls = v.bytes_read.never_falls }

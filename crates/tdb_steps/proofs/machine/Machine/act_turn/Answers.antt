@@ -13,7 +13,7 @@ use Rattle.tdb_steps.specs.PlainCommands.{command_of}
 use Rattle.tdb_steps.proofs.Counted.{end_rightly, begun_fits}
 use Rattle.tdb_steps.proofs.Rowed.{act_row}
 use Rattle.tdb_space.proofs.Results.{on_err}
-use Rattle.tdb_steps.specs.Reads.{look_reads, number_reads, TurnReads}
+use Rattle.tdb_steps.specs.Reads.{costs_of, number_reads, TurnReads}
 use Rattle.tdb_steps.proofs.Reading.{read_besides}
 use Rattle.tdb_steps.specs.Memory.{TakesValue}
 use Rattle.tdb_steps.proofs.Starving.{done_so}
@@ -91,40 +91,44 @@ returns-in_err-count-in-Done-clause-stopped g c = on_err c.from_residual-in_err-
 
 -- what was read
 pub returns-in-Step-clause-reads : goal.returns-in-Step-clause-reads
-returns-in-Step-clause-reads g c told hands A =
+returns-in-Step-clause-reads g c told small hands A =
     let f = g.S.Space.form c.args.s.now in
     let img = g.S.Space.image c.args.s.now in
     let before = g.S.Space.bytes_read c.args.s.now in
-    let act = (subst (λ x. TurnReads (look_reads f img c.self.inside.command) 0 x before (g.S.Space.bytes_read c.act.new.s)) c.replace-stage.ensures.value (c.act.ensures.reads told hands A)) in
-    subst (λ (d : Doing). TurnReads (look_reads f img d.command) number_reads d.stage before (g.S.Space.bytes_read c.act.new.s)) c.self.view_is
-    (read_besides (look_reads f img c.self.inside.command) 0 number_reads c.self.inside.stage before (g.S.Space.bytes_read c.act.new.s) (g.S.Space.bytes_read c.act.new.s) act (record { no_more = omega arith; never_falls = omega arith }) (omega arith))
+    let act = subst (λ w. TurnReads (costs_of f img c.self.inside.command w) 0 c.self.inside.stage before (g.S.Space.bytes_read c.act.new.s)) c.take-whole.ensures.value
+    (subst (λ x. TurnReads (costs_of f img c.self.inside.command c.take-whole.result) 0 x before (g.S.Space.bytes_read c.act.new.s)) c.replace-stage.ensures.value (c.act.ensures.reads told small hands A)) in
+    subst (λ (d : Doing). TurnReads (costs_of f img d.command d.whole) number_reads d.stage before (g.S.Space.bytes_read c.act.new.s)) c.self.view_is
+    (read_besides (costs_of f img c.self.inside.command c.self.inside.whole) 0 number_reads c.self.inside.stage before (g.S.Space.bytes_read c.act.new.s) (g.S.Space.bytes_read c.act.new.s) act (record { no_more = omega arith; never_falls = omega arith }) (omega arith))
 
 pub returns-in_ok-count-in-Done-clause-reads : goal.returns-in_ok-count-in-Done-clause-reads
-returns-in_ok-count-in-Done-clause-reads g c told hands A =
+returns-in_ok-count-in-Done-clause-reads g c told small hands A =
     let f = g.S.Space.form c.args.s.now in
     let img = g.S.Space.image c.args.s.now in
     let before = g.S.Space.bytes_read c.args.s.now in
-    let act = (subst (λ x. TurnReads (look_reads f img c.self.inside.command) 0 x before (g.S.Space.bytes_read c.act.new.s)) c.replace-stage.ensures.value (c.act.ensures.reads told hands A)) in
-    subst (λ (d : Doing). TurnReads (look_reads f img d.command) number_reads d.stage before (g.S.Space.bytes_read c.count.new.s)) c.self.view_is
-    (read_besides (look_reads f img c.self.inside.command) number_reads number_reads c.self.inside.stage before (g.S.Space.bytes_read c.act.new.s) (g.S.Space.bytes_read c.count.new.s) act c.count.ensures.bytes_read (omega arith))
+    let act = subst (λ w. TurnReads (costs_of f img c.self.inside.command w) 0 c.self.inside.stage before (g.S.Space.bytes_read c.act.new.s)) c.take-whole.ensures.value
+    (subst (λ x. TurnReads (costs_of f img c.self.inside.command c.take-whole.result) 0 x before (g.S.Space.bytes_read c.act.new.s)) c.replace-stage.ensures.value (c.act.ensures.reads told small hands A)) in
+    subst (λ (d : Doing). TurnReads (costs_of f img d.command d.whole) number_reads d.stage before (g.S.Space.bytes_read c.count.new.s)) c.self.view_is
+    (read_besides (costs_of f img c.self.inside.command c.self.inside.whole) number_reads number_reads c.self.inside.stage before (g.S.Space.bytes_read c.act.new.s) (g.S.Space.bytes_read c.count.new.s) act c.count.ensures.bytes_read (omega arith))
 
 pub returns-in_err-next-clause-reads : goal.returns-in_err-next-clause-reads
-returns-in_err-next-clause-reads g c told hands A =
+returns-in_err-next-clause-reads g c told small hands A =
     let f = g.S.Space.form c.args.s.now in
     let img = g.S.Space.image c.args.s.now in
     let before = g.S.Space.bytes_read c.args.s.now in
-    let act = (subst (λ x. TurnReads (look_reads f img c.self.inside.command) 0 x before (g.S.Space.bytes_read c.act.new.s)) c.replace-stage.ensures.value (c.act.ensures.reads told hands A)) in
-    subst (λ (d : Doing). TurnReads (look_reads f img d.command) number_reads d.stage before (g.S.Space.bytes_read c.act.new.s)) c.self.view_is
-    (read_besides (look_reads f img c.self.inside.command) 0 number_reads c.self.inside.stage before (g.S.Space.bytes_read c.act.new.s) (g.S.Space.bytes_read c.act.new.s) act (record { no_more = omega arith; never_falls = omega arith }) (omega arith))
+    let act = subst (λ w. TurnReads (costs_of f img c.self.inside.command w) 0 c.self.inside.stage before (g.S.Space.bytes_read c.act.new.s)) c.take-whole.ensures.value
+    (subst (λ x. TurnReads (costs_of f img c.self.inside.command c.take-whole.result) 0 x before (g.S.Space.bytes_read c.act.new.s)) c.replace-stage.ensures.value (c.act.ensures.reads told small hands A)) in
+    subst (λ (d : Doing). TurnReads (costs_of f img d.command d.whole) number_reads d.stage before (g.S.Space.bytes_read c.act.new.s)) c.self.view_is
+    (read_besides (costs_of f img c.self.inside.command c.self.inside.whole) 0 number_reads c.self.inside.stage before (g.S.Space.bytes_read c.act.new.s) (g.S.Space.bytes_read c.act.new.s) act (record { no_more = omega arith; never_falls = omega arith }) (omega arith))
 
 pub returns-in_err-count-in-Done-clause-reads : goal.returns-in_err-count-in-Done-clause-reads
-returns-in_err-count-in-Done-clause-reads g c told hands A =
+returns-in_err-count-in-Done-clause-reads g c told small hands A =
     let f = g.S.Space.form c.args.s.now in
     let img = g.S.Space.image c.args.s.now in
     let before = g.S.Space.bytes_read c.args.s.now in
-    let act = (subst (λ x. TurnReads (look_reads f img c.self.inside.command) 0 x before (g.S.Space.bytes_read c.act.new.s)) c.replace-stage.ensures.value (c.act.ensures.reads told hands A)) in
-    subst (λ (d : Doing). TurnReads (look_reads f img d.command) number_reads d.stage before (g.S.Space.bytes_read c.count.new.s)) c.self.view_is
-    (read_besides (look_reads f img c.self.inside.command) number_reads number_reads c.self.inside.stage before (g.S.Space.bytes_read c.act.new.s) (g.S.Space.bytes_read c.count.new.s) act c.count.ensures.bytes_read (omega arith))
+    let act = subst (λ w. TurnReads (costs_of f img c.self.inside.command w) 0 c.self.inside.stage before (g.S.Space.bytes_read c.act.new.s)) c.take-whole.ensures.value
+    (subst (λ x. TurnReads (costs_of f img c.self.inside.command c.take-whole.result) 0 x before (g.S.Space.bytes_read c.act.new.s)) c.replace-stage.ensures.value (c.act.ensures.reads told small hands A)) in
+    subst (λ (d : Doing). TurnReads (costs_of f img d.command d.whole) number_reads d.stage before (g.S.Space.bytes_read c.count.new.s)) c.self.view_is
+    (read_besides (costs_of f img c.self.inside.command c.self.inside.whole) number_reads number_reads c.self.inside.stage before (g.S.Space.bytes_read c.act.new.s) (g.S.Space.bytes_read c.count.new.s) act c.count.ensures.bytes_read (omega arith))
 
 -- over a disk it ends for want of memory only where it takes a value
 pub returns-in_ok-count-in-Done-clause-starves : goal.returns-in_ok-count-in-Done-clause-starves

@@ -7,7 +7,7 @@ use Rattle.tdb_steps.specs.PlainCommands.{turn_of}
 use Rattle.tdb_steps.proofs.Turning.{lock_turned, row_facts, row_idle, lock_stage, locks_idle}
 use Rattle.tdb_steps.proofs.Rowed.{lock_table, act_table, end_table, ended_rows}
 use Rattle.tdb_steps.proofs.machine.Machine.step.Goals.{in-Done, in_default-turn}
-use Rattle.tdb_steps.specs.Reads.{number_reads}
+use Rattle.tdb_steps.specs.Reads.{costs_of, number_reads}
 use Rattle.tdb_steps.proofs.Reading.{nothing_read}
 use Rattle.tdb_space.proofs.Results.{on_err}
 use Rattle.tdb_steps.proofs.Starving.{outside_lock, outside_act}
@@ -52,7 +52,8 @@ returns-in_err-turn-clause-stopped g c = on_err c.from_residual.result c.in_err-
 
 -- a turn that takes a lock reads nothing
 pub returns-in-Some-clause-reads : goal.returns-in-Some-clause-reads
-returns-in-Some-clause-reads g c told hands A = nothing_read _ number_reads c.args.self.now.stage (g.S.Space.bytes_read c.args.s.now) (g.S.Space.bytes_read c.args.s.now) refl
+returns-in-Some-clause-reads g c told small hands A =
+    nothing_read (costs_of (g.S.Space.form c.args.s.now) (g.S.Space.image c.args.s.now) c.args.self.now.command c.args.self.now.whole) number_reads c.args.self.now.stage (g.S.Space.bytes_read c.args.s.now) (g.S.Space.bytes_read c.args.s.now) refl
 
 -- over a disk it ends for want of memory only where it takes a lock or a value
 pub returns-in-Some-clause-starves : goal.returns-in-Some-clause-starves
