@@ -11,7 +11,7 @@ use Rattle.tdb_steps.proofs.Holdings.{idle_free}
 use Rattle.tdb_txn_turns.specs.Holding.{first_next}
 use Rattle.tdb_txn_turns.specs.Prepares.{start_held}
 use Rattle.tdb_txn_turns.proofs.CommitLocks.{third_first, third_wants}
-use Rattle.tdb_txn_turns.proofs.Planned.{plan_answer, plan_finds_nothing, plan_is_ready}
+use Rattle.tdb_txn_turns.proofs.Planned.{plan_answer, plan_finds_nothing, plan_is_ready, plan_stops}
 use Rattle.tdb_txn_turns.proofs.PlanSyncs.{plan_syncs}
 use Rattle.tdb_txn_turns.proofs.Room.{planned_full, planned_memory, planned_nothing, planned_ready}
 use Rattle.tdb_txn_turns.proofs.Rows.{row_steps}
@@ -98,3 +98,19 @@ returns-in-Ok-Ready-clause-plans g c told r b R =
       plan_syncs a.txn r b h R (g.D.Disk.syncs a.d.now) (g.D.Disk.syncs c.plan.new.d)
           (λ may. subst (λ x. PlanSyncs a.txn (seen h) (g.D.Disk.syncs a.d.now) (g.D.Disk.syncs c.plan.new.d) (Ok x)) i.field-0-is (i.ensures.as_often told may)),
     )
+
+-- what a stop leaves
+pub returns-in-Ok-Nothing-clause-stops : goal.returns-in-Ok-Nothing-clause-stops
+returns-in-Ok-Nothing-clause-stops g c told r b R = plan_stops c.args.txn c.args.limit r b (g.D.Disk.history c.args.d.now) (g.D.Disk.history c.plan.new.d) R (c.plan.ensures.stops told)
+
+pub returns-in-Ok-Ready-clause-stops : goal.returns-in-Ok-Ready-clause-stops
+returns-in-Ok-Ready-clause-stops g c told r b R = plan_stops c.args.txn c.args.limit r b (g.D.Disk.history c.args.d.now) (g.D.Disk.history c.plan.new.d) R (c.plan.ensures.stops told)
+
+pub returns-in-Err-Full-clause-stops : goal.returns-in-Err-Full-clause-stops
+returns-in-Err-Full-clause-stops g c told r b R = plan_stops c.args.txn c.args.limit r b (g.D.Disk.history c.args.d.now) (g.D.Disk.history c.plan.new.d) R (c.plan.ensures.stops told)
+
+pub returns-in-Err-Memory-clause-stops : goal.returns-in-Err-Memory-clause-stops
+returns-in-Err-Memory-clause-stops g c told r b R = plan_stops c.args.txn c.args.limit r b (g.D.Disk.history c.args.d.now) (g.D.Disk.history c.plan.new.d) R (c.plan.ensures.stops told)
+
+pub returns-in-Err-Io-clause-stops : goal.returns-in-Err-Io-clause-stops
+returns-in-Err-Io-clause-stops g c told r b R = plan_stops c.args.txn c.args.limit r b (g.D.Disk.history c.args.d.now) (g.D.Disk.history c.plan.new.d) R (c.plan.ensures.stops told)
