@@ -60,11 +60,11 @@ TellsAllLines answer = (answer ≡ Ok (Ok tt)) ⊎ (answer ≡ Ok (Err F.Log))
 abbrev pub SaysAllLines : Result Ending Unprinted → Type 0
 SaysAllLines answer = (answer ≡ Ok (Replied Played)) ⊎ (answer ≡ Ok LogFault)
 
--- Plays ended so between two moments, and their lines were written, or a front of the text of these: whole lines, unless
--- the output failed. From each state of the first moment these lines tell the plays, as far as they came, whatever broke them off; unless the disk failed they
--- lead to a state of the other moment, and all plays do where these are done. The lines tell the calls by which that
--- was. Where a stop at the first moment leaves only what opens to the file's map, and the lines are transacted, stops
--- leave what opens on the way, and what is told stays.
+-- Plays ended so between two moments, and their lines were written, or a front of the text of these: whole lines,
+-- unless the output failed. From each state of the first moment these lines tell the plays, as far as they came,
+-- whatever broke them off; unless the disk failed they lead to a state of the other moment, and all plays do where
+-- these are done. The lines tell the calls by which that was. Where a stop at the first moment leaves only what opens
+-- to the file's map, and the lines are transacted, stops leave what opens on the way, and what is told stays.
 pub record StopsTold (disk_tells output_tells : Bool) (old new : Scene) (plays : List Play) (answer : PlaysEnd) : Type 0 where
   pub lines : List Line
   pub whole : TellsAllLines answer → IsTrue output_tells → new.written ≡ old.written ++ report_text lines
@@ -102,8 +102,8 @@ ComesToImage f start plays lines img = (new : State) × ComesTo f start (law_pla
 
 -- All plays in a world, with the lines of unfinished commands behind those of the plays: so it is of stops from each
 -- state of the world on. Whole lines were written, unless the output failed; where the plays are done or a log failed,
--- all of them, and no other line of a play. The lines tell these plays as far as they came; where the disk is sound, to a state as whose file what is left is read.
--- They tell the calls that were made, between two lengths of the file.
+-- all of them, and no other line of a play. The lines tell these plays as far as they came; where the disk is sound, to
+-- a state as whose file what is left is read. They tell the calls that were made, between two lengths of the file.
 pub record StopsOver (w : Whole) (disk_tells output_tells : Bool) (plays : List Play) (answer : PlaysEnd) (sound : Type 0) (old now : History) (from to : ℕ) (before after : List ℕ) : Type 0 where
   pub lines : List Line
   pub printed : IsTrue output_tells → WroteOf lines before after

@@ -14,8 +14,8 @@ write_reads writes bytes = bytes + 8192 * writes
 abbrev pub search_reads : ℕ → List HandPair → ℕ
 search_reads rec_len pairs = 28 + 24 * count_before (is_long_enough rec_len) pairs
 
--- Of a give that goes along so many records at most: 12 bytes beside the hand, the head of the list twice, four bytes of
--- each of these records, the headers of two neighbours, and what its writes take.
+-- Of a give that goes along so many records at most: 12 bytes beside the hand, the head of the list twice, four bytes
+-- of each of these records, the headers of two neighbours, and what its writes take.
 abbrev pub give_reads : ℕ → ℕ
 give_reads most = 68 + 4 * most + write_reads 5 40
 

@@ -275,9 +275,10 @@ impl Openers {
     /// other turn may be taken in the world: the disk failed, or a check found a fault in the file, which no turn
     /// leaves.
     ///
-    /// An opener that holds no record for writing before the turn only looks at the file, and so do one that isn't in the
-    /// middle of a change, and one whose command is on its cursor and doesn't purge a record. The reply is `Full` exactly where the file has no room, up to the limit, for what the
-    /// command stores: at the turn in which it takes a record, with the length of the file and what it needs.
+    /// An opener that holds no record for writing before the turn only looks at the file, and so do one that isn't in
+    /// the middle of a change, and one whose command is on its cursor and doesn't purge a record. The reply is `Full`
+    /// exactly where the file has no room, up to the limit, for what the command stores: at the turn in which it takes
+    /// a record, with the length of the file and what it needs.
     ///
     /// Cost: that of the command's turn, and a search in the lock table; nothing is passed over that doesn't belong to
     /// it.

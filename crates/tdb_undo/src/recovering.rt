@@ -115,8 +115,8 @@ fn undo<D: Disk>(d: &mut D, h: &Header, area: &Area) -> Result<u64, UndoRefusal>
 ///
 /// `UndoBad` tells the first fault that the opening of the undo area meets; nothing is written then, nor where the gate
 /// isn't open, whatever the answer is. All is tested before anything is written. It takes time linear in what the area
-/// keeps, goes through that twice, and takes no memory. After an undo three syncs were made where the area stands below the
-/// file's old length, and else six: so bytes are told only where an undo was made, whatever the file tells.
+/// keeps, goes through that twice, and takes no memory. After an undo three syncs were made where the area stands below
+/// the file's old length, and else six: so bytes are told only where an undo was made, whatever the file tells.
 pub fn recover<D: Disk>(d: &mut D, h: &Header) -> Result<u64, UndoRefusal>
     requires heads { 48 ≤ D.size d.old }
     requires short { D.size d.old < 2 ^ 63 }

@@ -18,9 +18,9 @@ abbrev pub StoppedUndo : Whole → History → History → Type 0
 StoppedUndo w h g = (state : State) → IsStateOf w h state → IsSafe (form_at w) h → LeavesOnly h g (OpensToState (form_at w) state)
 
 -- What the call leaves that failed, in a world and over its file, which has this length by the lines in front: nothing
--- has changed, as where the length couldn't be had; a turn failed, or the undo of an open gate; or a turn was taken that
--- no line tells, since the length of the file couldn't be had behind it. A turn that writes nothing leaves the file as
--- it is also where it fails.
+-- has changed, as where the length couldn't be had; a turn failed, or the undo of an open gate; or a turn was taken
+-- that no line tells, since the length of the file couldn't be had behind it. A turn that writes nothing leaves the
+-- file as it is also where it fails.
 pub data StoppedCall (w : Whole) (h : History) (size : ℕ) (g : History) : Type 0 where
   stopped_still : g ≡ h → StoppedCall w h size g
   stopped_turn : (who : ℕ) → length (seen h) ≡ size → StoppedTurn w h g who → StaysUnwritten w who h g → StoppedCall w h size g

@@ -52,18 +52,18 @@ returns-in-Ok-Some-clause-answered g c =
       usage = λ is. absurd (done.asked is);
       usage_exact = λ none. absurd (some_asks none);
     })
-    where
-      before : Outside
-      before = outside g.F.Files g.S.Source g.K.Sink g.L.Logs c.args.files.now c.args.input.now c.args.output.now c.args.logs.now
+  where
+    before : Outside
+    before = outside g.F.Files g.S.Source g.K.Sink g.L.Logs c.args.files.now c.args.input.now c.args.output.now c.args.logs.now
 
-      after : Outside
-      after = outside g.F.Files g.S.Source g.K.Sink g.L.Logs c.answer_ask.new.files c.answer_ask.new.input c.answer_ask.new.output c.answer_ask.new.logs
+    after : Outside
+    after = outside g.F.Files g.S.Source g.K.Sink g.L.Logs c.answer_ask.new.files c.answer_ask.new.input c.answer_ask.new.output c.answer_ask.new.logs
 
-      ask : Ask
-      ask = asked c.in-Ok-Some.ask
+    ask : Ask
+    ask = asked c.in-Ok-Some.ask
 
-      some_asks : {a : Ask} → Some a ≡ None → ⊥
-      some_asks is = cc
+    some_asks : {a : Ask} → Some a ≡ None → ⊥
+    some_asks is = cc
 
 pub returns-in-Ok-Some-clause-input_untouched : goal.returns-in-Ok-Some-clause-input_untouched
 returns-in-Ok-Some-clause-input_untouched g c unread = (c.answer_ask.ensures.unread (ap ask_reads (rw c.in-Ok-Some.field-0-is at c.in-Ok-Some.ensures.read) ∙ unread)).0
