@@ -4,6 +4,7 @@ ghost use Rattle.std.specs.Prelude.{◌≡◌, ◌≤◌, ◌<◌, ◌^◌, IsTr
 ghost use Rattle.tdb_disk.specs.Count.{HasCause, HasCauseOf};
 ghost use Rattle.tdb_words.specs.declared.record.TheConstants.{USED};
 ghost use Rattle.tdb_space.specs.Frame.{Looked, Wrote};
+ghost use Rattle.tdb_space.specs.Spare.{without_bound};
 ghost use Rattle.tdb_space.specs.Record.{Whole, magic_of};
 ghost use Rattle.tdb_space.specs.Form.{data_start};
 ghost use Rattle.tdb_space.specs.Extents.{HandPair};
@@ -93,6 +94,7 @@ pub(crate) fn prepare_purge<S: Space>(
     ensures idle { dead ≡ None → Looked S.Space s.old s.new }
     ensures readied { Readied S.Space s.old s.new }
     ensures asked { OnErr result (dead ≡ None → ⊥) }
+    ensures starves { IfErr result (λ e. e ≡ Memory → S.spare s.old ≡ without_bound → ⊥) }
     ensures cause { HasCauseOf Io (S.faults s.old) (S.faults s.new) result }
     ensures bytes_read { S.bytes_read s.old ≤ S.bytes_read s.new }
 {
@@ -154,16 +156,17 @@ pub(crate) fn purge_prepared<S: Space>(s: &mut S, place: Option<Place>) -> Resul
 
 /// Takes the dead record of a chain at an offset out of the chain, and gives it to the free list.
 ///
-/// It goes along the chain up to the record, and along the free list. Room for all writes is made first: with `Memory`
-/// nothing was written. `Io` where the disk failed: then the record may be in its chain, in no list, or in the free
-/// list, and each byte of the header, of the undo area and of other chains is as it was. Where no dead record of the
-/// chain stands there, nothing is written.
+/// It goes along the chain up to the record, and along the free list. Room for all writes is made first: with `Memory`,
+/// which never comes over a disk, nothing was written. `Io` where the disk failed: then the record may be in its chain,
+/// in no list, or in the free list, and each byte of the header, of the undo area and of other chains is as it was.
+/// Where no dead record of the chain stands there, nothing is written.
 pub fn purge_dead<S: Space>(s: &mut S, chain: u32, off: u32) -> Result<(), WalkRefusal>
     ensures purged { OnOk result (IsTrue S.tells → S.size s.old < 2 ^ 32 → (hands : List HandPair) → AcceptWith (S.form s.old) (S.image s.old) hands
         → chain < (S.form s.old).chains → IsDeadIn (S.form s.old) (S.image s.old) chain off → IsPurged (S.form s.old) (S.image s.old) (S.image s.new) chain off hands) }
     ensures stopped { OnErr result (IsTrue S.tells → S.size s.old < 2 ^ 32 → (hands : List HandPair) → AcceptWith (S.form s.old) (S.image s.old) hands
         → chain < (S.form s.old).chains → IsDeadIn (S.form s.old) (S.image s.old) chain off → PurgeStopped (S.form s.old) (S.image s.old) (S.image s.new) chain hands) }
     ensures memory { IfErr result (λ e. e ≡ Memory → S.image s.new ≡ S.image s.old) }
+    ensures starves { IfErr result (λ e. e ≡ Memory → S.spare s.old ≡ without_bound → ⊥) }
     ensures size { S.size s.new ≡ S.size s.old }
     ensures wrote { Wrote S.Space s.old s.new }
     ensures cause { HasCauseOf Io (S.faults s.old) (S.faults s.new) result }
