@@ -3,13 +3,14 @@
 ghost use Rattle.std.specs.Prelude.{◌≡◌, ◌⊎◌, ◌+◌, ◌^◌, ◌<◌, ◌≤◌, [], None, Some, length, IsTrue, IfErr, OnOk};
 ghost use Rattle.tdb_disk.specs.Count.{HasCauseOf, RoseUpTo};
 ghost use Rattle.tdb_space.specs.Frame.{Wrote};
+ghost use Rattle.tdb_space.specs.Spare.{without_bound};
 ghost use Rattle.tdb_space.specs.NewRecord.{rec_len_for};
 ghost use Rattle.tdb_space.specs.Pairs.{map_of};
 ghost use Rattle.tdb_space.specs.Accepted.{AcceptWith};
 ghost use Rattle.tdb_free.specs.Growth.{grown_length};
 ghost use Rattle.tdb_backup.specs.Filling.{Added, Filled, PutFirst, InsertCause};
 ghost use Rattle.tdb_backup.specs.Reads.{insert_reads};
-ghost use Rattle.tdb_backup.specs.declared.refusal.InsertRefusal.TheVariants.{Io};
+ghost use Rattle.tdb_backup.specs.declared.refusal.InsertRefusal.TheVariants.{Io, Memory};
 
 use crate::refusal::InsertRefusal;
 use tdb_chain::link;
@@ -21,9 +22,9 @@ use tdb_space::{Space, rec_len_for};
 /// time.
 ///
 /// The record is taken from the free list, or from what the file grows by, and put in front of its chain. Room for all
-/// writes is made first: `Memory` where that is wanting, and then nothing is changed. `Full` where no free record is
-/// long enough and the file would be longer than `limit`; nothing is changed then. `Io` where the disk failed: then the
-/// file may hold a part of the record.
+/// writes is made first: `Memory` where that is wanting, as it never is over a disk, and then nothing is changed.
+/// `Full` where no free record is long enough and the file would be longer than `limit`; nothing is changed then. `Io`
+/// where the disk failed: then the file may hold a part of the record.
 pub fn insert_new<S: Space>(
     s: &mut S,
     key: &[u8],
@@ -43,6 +44,7 @@ pub fn insert_new<S: Space>(
         → Filled (S.form s.old) (S.image s.old) (S.image s.new) (rec_len_for (length key.now) (length value.now)) limit) }
     ensures refused { IfErr result (λ e. IsTrue S.tells → S.size s.old < 2 ^ 32 → AcceptWith (S.form s.old) (S.image s.old) []
         → InsertCause (S.form s.old) (S.image s.old) (S.image s.new) (rec_len_for (length key.now) (length value.now)) limit e) }
+    ensures starves { IfErr result (λ e. e ≡ Memory → S.spare s.old ≡ without_bound → ⊥) }
     ensures size { (S.size s.new ≡ S.size s.old)
         ⊎ (grown_length (S.size s.old) (24 + rec_len_for (length key.now) (length value.now)) limit ≡ Some (S.size s.new)) }
     ensures wrote { Wrote S.Space s.old s.new }
