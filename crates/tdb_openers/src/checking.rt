@@ -5,9 +5,11 @@ ghost use Rattle.tdb_disk.specs.Count.{HasCause};
 ghost use Rattle.tdb_space.specs.Form.{Form};
 ghost use Rattle.tdb_space.specs.Accepted.{AcceptWith};
 ghost use Rattle.tdb_space.specs.Pairs.{order_of};
+ghost use Rattle.tdb_law.specs.Commands.Command.{OnMap};
 ghost use Rattle.tdb_law.specs.Commands.MapCommand.{Check};
 ghost use Rattle.tdb_law.specs.Openers.{Map};
 ghost use Rattle.tdb_steps.specs.Machines.{MapRow, MapTurned};
+ghost use Rattle.tdb_steps.specs.Memory.{StarvesOutside};
 ghost use Rattle.tdb_space.specs.Frame.{Looked};
 ghost use Rattle.tdb_steps.specs.LockRows.{AllStandAlone, locks_in};
 ghost use Rattle.tdb_steps.specs.Holdings.{HoldsBefore, LocksTurned};
@@ -105,8 +107,8 @@ fn count<S: Space>(alloc: Global, s: &mut S) -> Result<Option<u64>, Io>
 /// All records are locked for reading, and then the free list; then the keys are counted, and the reply is their
 /// number. A lock that the explicit ones cover is neither taken nor let go. Blocked by the first conflict: then nothing
 /// changes. With its reply the check lets go of what it took, for which it asks for no memory. `Memory` where that is
-/// wanting. `Io` where the disk failed, and where the file has a fault, which no command leaves: then it keeps its
-/// locks.
+/// wanting for a lock or for the count. `Io` where the disk failed, and where the file has a fault, which no command
+/// leaves: then it keeps its locks.
 ///
 /// Cost: a pass over the lock table where a lock is taken; else a check of the whole file.
 pub(crate) fn check_turn<S: Space>(
@@ -124,6 +126,7 @@ pub(crate) fn check_turn<S: Space>(
     ensures map { IfOk result (λ turn. (n : ℕ) (f : Form) (img : List ℕ) (m : Map) → CheckAfter checking.old n → IsMapOf f img m → HasKeys checking.old m
         → MapTurned f img Check n m (turn_of turn)) }
     ensures leaves { IfOk result (CheckLeaves checking.old checking.new) }
+    ensures starves { IfOk result (λ turn. (f : Form) (n : ℕ) → CheckAfter checking.old n → StarvesOutside f (record { command = OnMap Check; steps = n }) (turn_of turn)) }
     ensures counted { IfOk result (λ turn. IsTrue S.tells → AcceptWith (S.form s.old) (S.image s.old) [] → checking.old ≡ Checking.FreeList → HasCounted (S.form s.old) (S.image s.old) checking.new) }
     ensures looked { Looked S.Space s.old s.new }
     ensures cause { IsTrue S.tells → (checking.old ≡ Checking.FreeList → AcceptWith (S.form s.old) (S.image s.old) []) → HasCause (S.faults s.old) (S.faults s.new) result }

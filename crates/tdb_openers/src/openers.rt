@@ -10,7 +10,8 @@ ghost use Rattle.tdb_law.specs.World.{HasFewChains};
 ghost use Rattle.tdb_law.specs.Beginning.{IsLoaded};
 ghost use Rattle.tdb_law.specs.Events.{Joins, Given};
 ghost use Rattle.tdb_law.specs.Turned.{Turned};
-ghost use Rattle.tdb_steps.specs.Room.{FullAtTake};
+ghost use Rattle.tdb_steps.specs.Memory.{StarvesOutside};
+ghost use Rattle.tdb_steps.specs.Room.{FullOutside};
 ghost use Rattle.tdb_walk.specs.Cursors.{spot_of};
 ghost use Rattle.tdb_openers.specs.Openers.{own_of, command_in};
 ghost use Rattle.tdb_openers.specs.Died.{HasDied};
@@ -278,7 +279,8 @@ impl Openers {
     /// An opener that holds no record for writing before the turn only looks at the file, and so do one that isn't in
     /// the middle of a change, and one whose command is on its cursor and doesn't purge a record. The reply is `Full`
     /// exactly where the file has no room, up to the limit, for what the command stores: at the turn in which it takes
-    /// a record, with the length of the file and what it needs.
+    /// a record, with the length of the file and what it needs. Of a command on the map it is `Memory` only where the
+    /// turn takes a lock, the value that a fetch tells or an append joins, or the count of a check.
     ///
     /// Cost: that of the command's turn, and a search in the lock table; nothing is passed over that doesn't belong to
     /// it.
@@ -292,7 +294,8 @@ impl Openers {
         ensures turned { IfOk result (λ turn. IsTrue S.tells → BytesStand self.old (S.image s.old) → (x : Opener) (t : Task) → IsBusy self.old who x t
             → Turned (form_in self.old.header) (state_in self.old (S.image s.old)) (law_opener who) (law_of_task t) (law_turn turn) (state_in self.new (S.image s.new))) }
         ensures full { IfOk result (λ turn. IsTrue S.tells → BytesStand self.old (S.image s.old) → (x : Opener) (t : Task) → IsBusy self.old who x t
-            → FullAtTake (form_in self.old.header) (S.image s.old) self.old.options.limit (law_of_task t) (law_turn turn)) }
+            → FullOutside (form_in self.old.header) (S.image s.old) self.old.options.limit (law_of_task t) (law_turn turn)) }
+        ensures starves { IfOk result (λ turn. (x : Opener) (t : Task) → IsBusy self.old who x t → StarvesOutside (form_in self.old.header) (law_of_task t) (law_turn turn)) }
         ensures stopped { OnErr result (IsTrue S.tells → BytesStand self.old (S.image s.old) → (x : Opener) (t : Task) → IsBusy self.old who x t
             → JobStopped (form_in self.old.header) (S.image s.old) (S.image s.new) x.walk.cursor t.job t.steps (other_hands self.old.openers (law_opener who))) }
         ensures calm { IsCalm S.Space s.old s.new self.old.table (law_opener who) }

@@ -11,7 +11,8 @@ ghost use Rattle.tdb_commands.specs.InLaw.{law_turn};
 ghost use Rattle.tdb_steps.specs.Stages.{IsIdle};
 ghost use Rattle.tdb_steps.specs.Machines.{begun, MachineStopped};
 ghost use Rattle.tdb_steps.specs.LockTurns.{ActRightly};
-ghost use Rattle.tdb_steps.specs.Room.{FullAtTake};
+ghost use Rattle.tdb_steps.specs.Memory.{StarvesOutside};
+ghost use Rattle.tdb_steps.specs.Room.{FullOutside};
 ghost use Rattle.tdb_openers.specs.Given.{IsWellHeld};
 ghost use Rattle.tdb_openers.specs.Openers.{AtRest, own_with, command_in};
 ghost use Rattle.tdb_openers.specs.Turning.{TurnsFile, TurnsImage, ImageBefore, resting};
@@ -34,7 +35,8 @@ use tdb_steps::Machine;
 /// conflicts: nothing changes then. With its reply the command lets go of what it took, and a change that it made
 /// raises the sequence number where the options say so. `Io` where the disk failed: then it keeps its locks. After a
 /// reply or `Io` the machine is before its first turn. The reply is `Full` exactly where the file has no room, up to
-/// the limit, for what the command stores.
+/// the limit, for what the command stores. It is `Memory` only where the turn takes a lock, or the value that a fetch
+/// tells or an append joins.
 ///
 /// Cost: a pass over the lock table where a lock is taken; else the chain of the key, the free list, or the writes,
 /// once each.
@@ -77,7 +79,10 @@ pub(crate) fn plain_turn<S: Space>(
     ensures full { IfOk result (λ turn. IsTrue S.tells → S.size s.old < 2 ^ 32 → (options : Options) (live : Bool) (rest : AtRest) (n who : ℕ) (others : List HandPair)
         → JobIsReady (S.form s.old) (own_with options live held.now rest) (resting rest) (Plain machine.old) n who owner (S.size s.old) locks.old
         → ImageBefore (S.form s.old) (Plain machine.old) (S.image s.old) others
-        → FullAtTake (S.form s.old) (S.image s.old) limit (record { command = command_in (Plain machine.old); steps = n }) (law_turn turn)) }
+        → FullOutside (S.form s.old) (S.image s.old) limit (record { command = command_in (Plain machine.old); steps = n }) (law_turn turn)) }
+    ensures starves { IfOk result (λ turn. (options : Options) (live : Bool) (rest : AtRest) (n who : ℕ)
+        → JobIsReady (S.form s.old) (own_with options live held.now rest) (resting rest) (Plain machine.old) n who owner (S.size s.old) locks.old
+        → StarvesOutside (S.form s.old) (record { command = command_in (Plain machine.old); steps = n }) (law_turn turn)) }
     ensures stopped { OnErr result (IsTrue S.tells → S.size s.old < 2 ^ 32 → (options : Options) (live : Bool) (rest : AtRest) (n who : ℕ) (others : List HandPair)
         → JobIsReady (S.form s.old) (own_with options live held.now rest) (resting rest) (Plain machine.old) n who owner (S.size s.old) locks.old
         → ImageBefore (S.form s.old) (Plain machine.old) (S.image s.old) others

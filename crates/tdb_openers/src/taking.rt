@@ -8,7 +8,8 @@ ghost use Rattle.tdb_space.specs.Frame.{Wrote};
 ghost use Rattle.tdb_space.specs.Spare.{without_bound};
 ghost use Rattle.tdb_law.specs.World.{HasFewChains};
 ghost use Rattle.tdb_law.specs.Openers.{View};
-ghost use Rattle.tdb_steps.specs.Room.{FullAtTake};
+ghost use Rattle.tdb_steps.specs.Memory.{StarvesOutside};
+ghost use Rattle.tdb_steps.specs.Room.{FullOutside};
 ghost use Rattle.tdb_walk.specs.Cursors.{At};
 ghost use Rattle.tdb_commands.specs.InLaw.{law_turn};
 ghost use Rattle.tdb_openers.specs.declared.job.Task.{Task};
@@ -69,7 +70,10 @@ impl Job {
         ensures full { IfOk result (λ turn. IsTrue S.tells → (rest : AtRest) (n who : ℕ) (others : List HandPair)
             → JobIsReady (S.form s.old) (own_with options.now live held.old rest) (resting rest) self.old n who owner (S.size s.old) locks.old
             → ImageBefore (S.form s.old) self.old (S.image s.old) others → IsPlain self.old
-            → FullAtTake (S.form s.old) (S.image s.old) options.now.limit (record { command = command_in self.old; steps = n }) (law_turn turn)) }
+            → FullOutside (S.form s.old) (S.image s.old) options.now.limit (record { command = command_in self.old; steps = n }) (law_turn turn)) }
+        ensures starves { IfOk result (λ turn. (rest : AtRest) (n who : ℕ)
+            → JobIsReady (S.form s.old) (own_with options.now live held.old rest) (resting rest) self.old n who owner (S.size s.old) locks.old
+            → StarvesOutside (S.form s.old) (record { command = command_in self.old; steps = n }) (law_turn turn)) }
         ensures stopped { OnErr result (IsTrue S.tells → (cursor : At) (rest : AtRest) (n who : ℕ) (others : List HandPair)
             → JobIsReady (S.form s.old) (own_with options.now live held.old rest) (resting rest) self.old n who owner (S.size s.old) locks.old
             → ImageBefore (S.form s.old) self.old (S.image s.old) others → JobStopped (S.form s.old) (S.image s.old) (S.image s.new) cursor self.old n others) }
@@ -153,7 +157,8 @@ impl Opener {
             → LeavesCursors (S.form s.old) (own_of options.now self.old) t self.new.task (law_turn turn) (S.image s.old) (S.image s.new) (is_stood spots.now))) }
         ensures stands { OnOk result (MayStand (S.form s.old) options.now (S.size s.new) self.new) }
         ensures full { IfOk result (λ turn. IsTrue S.tells → (t : Task) (who : ℕ) (others : List HandPair) → self.old.task ≡ Some t → owner ≡ who + 1 → ImageBefore (S.form s.old) t.job (S.image s.old) others
-            → IsPlain t.job → FullAtTake (S.form s.old) (S.image s.old) options.now.limit (law_of_task t) (law_turn turn)) }
+            → IsPlain t.job → FullOutside (S.form s.old) (S.image s.old) options.now.limit (law_of_task t) (law_turn turn)) }
+        ensures starves { IfOk result (λ turn. (t : Task) → self.old.task ≡ Some t → StarvesOutside (S.form s.old) (law_of_task t) (law_turn turn)) }
         ensures stopped { OnErr result (IsTrue S.tells → (t : Task) (who : ℕ) (others : List HandPair) → self.old.task ≡ Some t → owner ≡ who + 1 → ImageBefore (S.form s.old) t.job (S.image s.old) others
             → JobStopped (S.form s.old) (S.image s.old) (S.image s.new) self.old.walk.cursor t.job t.steps others) }
         ensures calm { (who : ℕ) → owner ≡ who + 1 → IsCalm S.Space s.old s.new locks.old who }

@@ -14,7 +14,8 @@ ghost use Rattle.tdb_commands.specs.InLaw.{law_command, law_turn};
 ghost use Rattle.tdb_steps.specs.LockRows.{rows_of};
 ghost use Rattle.tdb_steps.specs.PlainCommands.{key_of, command_of};
 ghost use Rattle.tdb_steps.specs.Machines.{begun, IsShort, MachineStopped};
-ghost use Rattle.tdb_steps.specs.Room.{FullAtTake};
+ghost use Rattle.tdb_steps.specs.Memory.{StarvesOutside};
+ghost use Rattle.tdb_steps.specs.Room.{FullOutside};
 ghost use Rattle.tdb_openers.specs.Calm.{IsCalm, IsSparing};
 ghost use Rattle.tdb_openers.specs.Given.{IsWellHeld};
 ghost use Rattle.tdb_openers.specs.Openers.{AtRest, own_with, command_in};
@@ -101,7 +102,10 @@ impl PlainJob {
         ensures full { IfOk result (λ turn. IsTrue S.tells → S.size s.old < 2 ^ 32 → (options : Options) (live : Bool) (rest : AtRest) (n who : ℕ) (others : List HandPair)
             → JobIsReady (S.form s.old) (own_with options live held.now rest) (resting rest) (Plain self.old) n who owner (S.size s.old) locks.old
             → ImageBefore (S.form s.old) (Plain self.old) (S.image s.old) others
-            → FullAtTake (S.form s.old) (S.image s.old) limit (record { command = command_in (Plain self.old); steps = n }) (law_turn turn)) }
+            → FullOutside (S.form s.old) (S.image s.old) limit (record { command = command_in (Plain self.old); steps = n }) (law_turn turn)) }
+        ensures starves { IfOk result (λ turn. (options : Options) (live : Bool) (rest : AtRest) (n who : ℕ)
+            → JobIsReady (S.form s.old) (own_with options live held.now rest) (resting rest) (Plain self.old) n who owner (S.size s.old) locks.old
+            → StarvesOutside (S.form s.old) (record { command = command_in (Plain self.old); steps = n }) (law_turn turn)) }
         ensures stopped { OnErr result (IsTrue S.tells → S.size s.old < 2 ^ 32 → (options : Options) (live : Bool) (rest : AtRest) (n who : ℕ) (others : List HandPair)
             → JobIsReady (S.form s.old) (own_with options live held.now rest) (resting rest) (Plain self.old) n who owner (S.size s.old) locks.old
             → ImageBefore (S.form s.old) (Plain self.old) (S.image s.old) others

@@ -8,16 +8,23 @@ use Rattle.tdb_locks.specs.declared.piece.Piece.{Piece}
 use Rattle.tdb_locks.specs.declared.turn.Turn.{Turn}
 use Rattle.tdb_locks.specs.declared.turn.Turn.TheVariants.{Step, Blocked, Done}
 use Rattle.tdb_law.specs.Commands as Law
+use Rattle.tdb_law.specs.Commands.Command.{OnMap}
 use Rattle.tdb_law.specs.Commands.MapCommand.{Check}
+use Rattle.tdb_law.specs.Commands.Reply.{Memory}
+use Rattle.tdb_law.specs.Commands.Turn.{Ends}
 use Rattle.tdb_law.specs.Openers.{Map}
 use Rattle.tdb_law.specs.Held.{locked, locked_next}
 use Rattle.tdb_steps.specs.LockRows.{start_of, end_of, is_covered, strength_of, locks_in}
 use Rattle.tdb_steps.specs.Holdings.{table_of, HoldsBefore, KeptBeside, LocksTurned}
 use Rattle.tdb_steps.specs.PlainCommands.{turn_of, reply_of, IsMapOf}
 use Rattle.tdb_steps.specs.Machines.{MapTurned}
+use Rattle.tdb_steps.specs.Memory.{StarvesOutside, may_starve}
 use Rattle.tdb_steps.specs.Machines.MapTurned.{map_waits, map_goes_on, map_answers, map_starves}
 use Rattle.tdb_steps.specs.declared.rows.LockRow.{LockRow}
 use Rattle.tdb_steps.proofs.Holdings.{want, lock_free, lock_blocked, lock_holds, let_go_holds, let_go_others, others_changed}
+use Rattle.tdb_openers.specs.declared.job.Checking.{Checking}
+use Rattle.tdb_openers.specs.declared.job.Checking.TheVariants as Checkings
+use Rattle.tdb_openers.specs.Openers.{CheckAfter}
 use Rattle.tdb_openers.specs.Checked.{all_lock, free_lock, check_locks, CheckLocks}
 
 small : (t : Bool) → (if t then 1 else 0) ≤ 1
@@ -78,3 +85,16 @@ module _ (f : Form) (img : List ℕ) (m : Map) (is : IsMapOf f img m) (n : ℕ) 
 
   pub number_map : (keys : ℕ) → 1 ≤ n → keys ≡ len m → MapTurned f img Check n m (Law.Turn.Ends (Law.Reply.Number keys))
   number_map keys some e = map_answers (Law.Reply.Number keys) refl some refl (ap Law.Reply.Number e) is
+
+-- memory is wanting for a lock or for the count
+map_so : {b c : Law.MapCommand} → OnMap b ≡ OnMap c → b ≡ c
+map_so e = cc
+
+check_early : (f : Form) (checking : Checking) (n : ℕ) → ((keys : ℕ) → checking ≡ Checkings.Counted keys → ⊥) → CheckAfter checking n → may_starve f Check n ≡ true
+check_early f Checkings.Begun n early at = ap (may_starve f Check) at
+check_early f Checkings.Records n early at = ap (may_starve f Check) at
+check_early f Checkings.FreeList n early at = ap (may_starve f Check) at
+check_early f (Checkings.Counted keys) n early at = absurd (early keys refl)
+
+pub check_starves : (f : Form) (checking : Checking) (n : ℕ) (turn : Law.Turn) → ((keys : ℕ) → checking ≡ Checkings.Counted keys → turn ≡ Ends Memory → ⊥) → CheckAfter checking n → StarvesOutside f (record { command = OnMap Check; steps = n }) turn
+check_starves f checking n turn early at c on e = subst (λ x. may_starve f x n ≡ true) (map_so on) (check_early f checking n (λ keys is. early keys is e) at)

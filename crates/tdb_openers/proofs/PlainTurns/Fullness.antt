@@ -4,11 +4,13 @@ use Rattle.tdb_space.specs.Form.{Form, form_in}
 use Rattle.tdb_space.specs.Pairs.{map_of}
 use Rattle.tdb_space.specs.Extents.{HandPair}
 use Rattle.tdb_space.specs.Accepted.{AcceptWith}
+use Rattle.tdb_locks.specs.declared.turn.Reply.{Reply}
 use Rattle.tdb_locks.specs.declared.turn.Turn.{Turn}
+use Rattle.tdb_locks.specs.declared.turn.Turn.TheVariants as Turns
 use Rattle.tdb_law.specs.Commands as Law
 use Rattle.tdb_law.specs.Commands.{WalkCommand}
 use Rattle.tdb_law.specs.Commands.Command.{OnMap, OnLocks, Seqnum, OnGroup, OnWalk}
-use Rattle.tdb_law.specs.Commands.Reply.{Full}
+use Rattle.tdb_law.specs.Commands.Reply.{Full, Memory}
 use Rattle.tdb_law.specs.Commands.Turn.{Ends}
 use Rattle.tdb_law.specs.Openers.{Own, Map, Task as LawTask, seen}
 use Rattle.tdb_law.specs.Refusals.{Refusal, says}
@@ -24,8 +26,9 @@ use Rattle.tdb_steps.specs.Stages.{hands_in, IsIdle}
 use Rattle.tdb_steps.specs.PlainCommands.{command_of, turn_of}
 use Rattle.tdb_steps.specs.Machines.{Doing, DoingKnows, MachineTurned, MapRow}
 use Rattle.tdb_steps.specs.LockTurns.{ActRightly}
-use Rattle.tdb_steps.specs.Room.{stored_pair, FullAtTake}
-use Rattle.tdb_steps.proofs.Room.{reply_not, ends_so, full_at_take}
+use Rattle.tdb_steps.specs.Memory.{StarvesOutside}
+use Rattle.tdb_steps.specs.Room.{stored_pair, FullOutside}
+use Rattle.tdb_steps.proofs.Room.{reply_not, ends_so, full_at_take, full_outside}
 use Rattle.tdb_openers.specs.declared.opener.Opener.{Opener}
 use Rattle.tdb_openers.specs.declared.job.Job.{Job}
 use Rattle.tdb_openers.specs.declared.job.Job.TheVariants as Jobs
@@ -69,23 +72,71 @@ ends_back Law.Turn.Step r e = absurd (cc e)
 ends_back (Law.Turn.Blocked o b) r e = absurd (cc e)
 ends_back (Law.Turn.Ends s) r e = (s, ends_so e, refl)
 
-full_recounted : (f : Form) (a : List ℕ) (limit : ℕ) (t : LawTask) (u : Law.Turn) → FullAtTake f a limit t u → FullAtTake f a limit t (recounted u)
+full_recounted : (f : Form) (a : List ℕ) (limit : ℕ) (t : LawTask) (u : Law.Turn) → FullOutside f a limit t u → FullOutside f a limit t (recounted u)
 full_recounted f a limit t u F = record {
   only = λ len need e. F.only len need (full_turn u len need e);
-  takes = λ three. record {
-    only = λ len need e. (F.takes three).only len need (full_turn u len need e);
-    always = λ len need N. elim ((F.takes three).always len need N) [ inl e ↦ inl (ap recounted e) | inr e ↦ inr (ap recounted e) ];
-  };
-  looks = λ one len need N r e. let s = ends_back u r e in sym s.1 ∙ ap recounted_reply (F.looks one len need N s.0 s.2);
+  takes = λ three len need N. ap recounted (F.takes three len need N);
+  looks = λ one len need N r e. let s = ends_back u r e in let L = F.looks one len need N s.0 s.2 in (sym s.1 ∙ ap recounted_reply L.0, L.1);
 }
+
+-- so does one that ends for want of memory
+memory_reply : (r : Law.Reply) → recounted_reply r ≡ Memory → r ≡ Memory
+memory_reply Law.Reply.Done e = e
+memory_reply Law.Reply.End e = e
+memory_reply Law.Reply.KeyMissing e = e
+memory_reply Law.Reply.KeyThere e = e
+memory_reply Law.Reply.ReadOnly e = e
+memory_reply Law.Reply.NoTransaction e = e
+memory_reply Law.Reply.InTransaction e = e
+memory_reply Law.Reply.Nesting e = e
+memory_reply Law.Reply.Doomed e = e
+memory_reply Law.Reply.NotLocked e = e
+memory_reply Law.Reply.Memory e = e
+memory_reply Law.Reply.Yes e = e
+memory_reply Law.Reply.No e = e
+memory_reply (Law.Reply.Value v) e = e
+memory_reply (Law.Reply.Pair k v) e = e
+memory_reply (Law.Reply.Busy o b) e = absurd (cc e)
+memory_reply (Law.Reply.Full l k) e = e
+memory_reply (Law.Reply.HeldLocks n) e = e
+memory_reply (Law.Reply.Number n) e = e
+
+memory_turn : (u : Law.Turn) → recounted u ≡ Ends Memory → u ≡ Ends Memory
+memory_turn Law.Turn.Step e = absurd (cc e)
+memory_turn (Law.Turn.Blocked o b) e = absurd (cc e)
+memory_turn (Law.Turn.Ends r) e = ap Ends (memory_reply r (ends_so e))
+
+pub plain_starves : (f : Form) (t : LawTask) (turn : Turn) → StarvesOutside f t (turn_of turn) → StarvesOutside f t (law_turn turn)
+plain_starves f t turn S c on e = S c on (memory_turn (turn_of turn) (turn_is turn ∙ e))
 
 -- of a plain command
 pub plain_full : (f : Form) (a b : List ℕ) (d e : Doing) (n limit : ℕ) (stood_on : List ℕ) (others : List HandPair) (turn : Turn) → IsAfter d.command d.stage n → AcceptWith f a (hands_in d.stage ++ others) → DoingKnows f a d
     → MapRow (command_of d.command) n (turn_of turn) → MachineTurned f a b d e n (turn_of turn) others → ((IsIdle d.stage → ⊥) → ActRightly f a b d e limit stood_on turn)
-    → FullAtTake f a limit (record { command = OnMap (command_of d.command); steps = n }) (law_turn turn)
-plain_full f a b d e n limit stood_on others turn is A K row M R =
-    subst (FullAtTake f a limit (record { command = OnMap (command_of d.command); steps = n })) (turn_is turn)
-    (full_recounted f a limit (record { command = OnMap (command_of d.command); steps = n }) (turn_of turn) (full_at_take f a b d e n limit stood_on others turn is A K row M.map R))
+    → StarvesOutside f (record { command = OnMap (command_of d.command); steps = n }) (turn_of turn)
+    → FullOutside f a limit (record { command = OnMap (command_of d.command); steps = n }) (law_turn turn)
+plain_full f a b d e n limit stood_on others turn is A K row M R S =
+    let t : LawTask = record { command = OnMap (command_of d.command); steps = n } in
+    subst (FullOutside f a limit t) (turn_is turn)
+    (full_recounted f a limit t (turn_of turn) (full_outside f a limit t (turn_of turn) (full_at_take f a b d e n limit stood_on others turn is A K row M.map R) S))
+
+-- the opener's own state tells neither that memory is wanting nor that space is
+says_fed : (x : Own) (q : Refusal) → says x q ≡ Memory → ⊥
+says_fed x Refusal.OnlyReads e = cc e
+says_fed x Refusal.IsPrepared e = cc e
+says_fed x Refusal.LocksStand e = cc e
+says_fed x Refusal.NothingLocked e = cc e
+says_fed x Refusal.NeverNests e = cc e
+says_fed x Refusal.NoneOpen e = cc e
+says_fed x Refusal.IsDoomed e = cc e
+
+refused_fed : (f : Form) (x : Own) (c : Law.Command) (r : Law.Reply) → IsRefused f x c r → r ≡ Memory → ⊥
+refused_fed f x c r R e = elim R [
+  | refuses why is says ↦ says_fed x why (sym says ∙ e)
+  | has_ended on out none says ↦ cc (sym says ∙ e)
+]
+
+pub refused_starves : (f : Form) (x : Own) (c : Law.Command) (r : Reply) (t : LawTask) (turn : Turn) → turn ≡ Turns.Done r → IsRefused f x c (law_reply r) → StarvesOutside f t (law_turn turn)
+refused_starves f x c r t turn is R b on e = absurd (refused_fed f x c (law_reply r) R (ends_so (sym (ap law_turn is) ∙ e)))
 
 -- no other command tells that space is wanting
 says_not : (x : Own) (q : Refusal) (len need : ℕ) → says x q ≡ Full len need → ⊥
@@ -156,18 +207,15 @@ refused_spares f x c r R = elim R [
 -- a job on no plain command stores nothing
 module _ (f : Form) (a : List ℕ) (limit : ℕ) (x : Own) (size : ℕ) (turn : Law.Turn) where
   spares_full : (c : Law.Command) (n : ℕ) → ((len need : ℕ) → turn ≡ Ends (Full len need) → fills f c x ≡ true) → fills f c x ≡ false → ((map : List ℕ → Option (List ℕ)) → 1 ≤ n → stored_pair c map ≡ None)
-      → FullAtTake f a limit (record { command = c; steps = n }) turn
+      → FullOutside f a limit (record { command = c; steps = n }) turn
   spares_full c n full spares none = record {
     only = λ len need t. absurd (cc (sym spares ∙ full len need t));
-    takes = λ three. record {
-      only = λ len need t. absurd (cc (sym spares ∙ full len need t));
-      always = λ len need N. absurd (cc (sym (none (map_of f a) (omega (arith, three))) ∙ N.stores));
-    };
+    takes = λ three len need N. absurd (cc (sym (none (map_of f a) (omega (arith, three))) ∙ N.stores));
     looks = λ one len need N r t. absurd (cc (sym (none (map_of f a) (omega (arith, one))) ∙ N.stores));
   }
 
-  job_full : (job : Job) (n : ℕ) → ((len need : ℕ) → turn ≡ Ends (Full len need) → fills f (command_in job) x ≡ true) → JobStands f x job n size → (IsPlain job → FullAtTake f a limit (record { command = command_in job; steps = n }) turn)
-      → FullAtTake f a limit (record { command = command_in job; steps = n }) turn
+  job_full : (job : Job) (n : ℕ) → ((len need : ℕ) → turn ≡ Ends (Full len need) → fills f (command_in job) x ≡ true) → JobStands f x job n size → (IsPlain job → FullOutside f a limit (record { command = command_in job; steps = n }) turn)
+      → FullOutside f a limit (record { command = command_in job; steps = n }) turn
   job_full (Jobs.Refused command reply) n full J plain = spares_full (law_command command) n full (refused_spares f x (law_command command) (law_reply reply) J.1) (λ map late. absurd (let none = J.0 in omega (arith, none, late)))
   job_full (Jobs.Plain d) n full J plain = plain tt
   job_full (Jobs.Check checking) n full J plain = spares_full (command_in (Jobs.Check checking)) n full (check_spares _ x) (λ map late. refl)
@@ -184,9 +232,18 @@ plain_beside (Jobs.Locking locking) w on plain = plain
 plain_beside Jobs.Seqnum w on plain = plain
 plain_beside (Jobs.Walk walking) w on plain = plain
 
+-- nor is it on the map
+pub map_beside : (job : Job) (w : WalkCommand) (b : Law.MapCommand) → walk_in job ≡ Some w → command_in job ≡ OnMap b → ⊥
+map_beside (Jobs.Refused command reply) w b on is = cc on
+map_beside (Jobs.Plain d) w b on is = cc on
+map_beside (Jobs.Check checking) w b on is = cc on
+map_beside (Jobs.Locking locking) w b on is = cc on
+map_beside Jobs.Seqnum w b on is = cc on
+map_beside (Jobs.Walk walking) w b on is = cc is
+
 -- A turn of the opener with a number, if it is so of a plain command.
 pub world_full : (w : World) (a : List ℕ) (size who : ℕ) (x : Opener) (t : Task) → IsBusy w who x t → Stands w a size → (turn : Turn) (new : State) → Turned (form_in w.header) (state_in w a) (law_opener who) (law_of_task t) (law_turn turn) new
-    → (IsPlain t.job → FullAtTake (form_in w.header) a w.options.limit (law_of_task t) (law_turn turn)) → FullAtTake (form_in w.header) a w.options.limit (law_of_task t) (law_turn turn)
+    → (IsPlain t.job → FullOutside (form_in w.header) a w.options.limit (law_of_task t) (law_turn turn)) → FullOutside (form_in w.header) a w.options.limit (law_of_task t) (law_turn turn)
 world_full w a size who x t B W turn new T plain =
     let f = form_in w.header in
     let there : (state_in w a).own (law_opener who) ≡ own_of w.options x = ap (λ o. (state_in w a).own o) (by_number who B.number.place B.number.counted) ∙ ap (own_at w.options) B.number.there in

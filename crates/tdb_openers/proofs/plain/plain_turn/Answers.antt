@@ -2,7 +2,8 @@
 use Rattle.std.proofs.Common.{ap, refl, inl, inr}
 use Rattle.std.specs.Prelude.{Result, Ok, Err, IfOk, OnErr, ◌≡◌, ℕ}
 use Rattle.tdb_steps.specs.Order.{IsAfter}
-use Rattle.tdb_steps.specs.PlainCommands.{turn_of}
+use Rattle.tdb_law.specs.Commands.Command.{OnMap}
+use Rattle.tdb_steps.specs.PlainCommands.{command_of, turn_of}
 use Rattle.tdb_steps.specs.Machines.{Doing, begun, Leaves}
 use Rattle.tdb_space.specs.declared.io.Io.{Io}
 use Rattle.tdb_locks.specs.declared.turn.Turn.{Turn}
@@ -13,8 +14,8 @@ use Rattle.tdb_openers.specs.Turning.{resting}
 use Rattle.tdb_openers.proofs.PlainTurns.Calm.{plain_calm, plain_spared}
 use Rattle.tdb_openers.proofs.PlainTurns.PlainJob.{left_image}
 use Rattle.tdb_openers.proofs.PlainTurns.PlainCursors.{plain_cursors}
-use Rattle.tdb_openers.proofs.PlainTurns.Fullness.{plain_full}
-use Rattle.std.proofs.lemmas.Result.{on_err_weaker}
+use Rattle.tdb_openers.proofs.PlainTurns.Fullness.{plain_full, plain_starves}
+use Rattle.std.proofs.lemmas.Result.{IfOk-weaker, on_err_weaker}
 use Rattle.tdb_openers.proofs.plain.plain_turn.Goals as goal
 
 -- what holds of an answer by four facts, by three, and by two
@@ -95,12 +96,12 @@ returns-clause-cursors g c =
 
 pub returns-clause-full : goal.returns-clause-full
 returns-clause-full g c =
-    by_three c.step.result _ _ _ _
-    (λ turn made row rightly told small options live rest n who others J I.
+    by_four c.step.result _ _ _ _ _
+    (λ turn made row rightly starves told small options live rest n who others J I.
     let is = J.stands.after in
     plain_full (g.S.Space.form c.args.s.now) (g.S.Space.image c.args.s.now) (g.S.Space.image c.step.new.s) c.args.machine.now c.step.new.self n c.args.limit c.args.stood_on.now others turn is I.accepted I.knows
-    (row n is) (made told small n others is I.may_be_out I.accepted I.knows) (rightly told small))
-    c.step.ensures.made c.step.ensures.row c.step.ensures.rightly
+    (row n is) (made told small n others is I.may_be_out I.accepted I.knows) (rightly told small) (starves c.requires.spare n is))
+    c.step.ensures.made c.step.ensures.row c.step.ensures.rightly c.step.ensures.starves
 
 -- a machine that isn't quiet, and may change the map, holds its chain for writing
 pub returns-clause-calm : goal.returns-clause-calm
@@ -122,3 +123,8 @@ returns-clause-spared g c options live rest n who J spares =
 pub returns-clause-stopped : goal.returns-clause-stopped
 returns-clause-stopped g c =
     on_err_weaker c.step.result (λ stopped told small options live rest n who others J I. stopped told small n others J.stands.after I.may_be_out I.accepted I.knows) c.step.ensures.stopped
+
+-- memory is wanting for a lock or a value
+pub returns-clause-starves : goal.returns-clause-starves
+returns-clause-starves g c =
+    IfOk-weaker c.step.result _ _ (λ turn starves options live rest n who J. plain_starves (g.S.Space.form c.args.s.now) (record { command = OnMap (command_of c.args.machine.now.command); steps = n }) turn (starves c.requires.spare n J.stands.after)) c.step.ensures.starves

@@ -1,5 +1,6 @@
 -- Each arm does what its kind of turn says.
-use Rattle.std.proofs.Common.{None, [], ◌<◌, false, refl, sym, subst, arith, ◌≡◌}
+use Rattle.std.proofs.Common.{None, [], ◌<◌, false, refl, sym, ◌∙◌, ap, subst, arith, ◌≡◌}
+use Rattle.tdb_locks.specs.declared.turn.Turn.TheVariants as Turns
 use Rattle.tdb_openers.specs.declared.job.Job.TheVariants as Jobs
 use Rattle.tdb_commands.specs.InLaw.{law_command, law_reply, law_turn}
 use Rattle.tdb_openers.specs.Openers.{own_with, command_in, IsRefused}
@@ -9,7 +10,7 @@ use Rattle.tdb_openers.proofs.Checks.CheckReady.{number_alone}
 use Rattle.tdb_openers.specs.Turning.{TurnsFile, ImageBefore, OpenerHolds, resting}
 use Rattle.tdb_openers.specs.Calm.{IsMidway}
 use Rattle.tdb_openers.specs.Jobs.{IsPlain, JobIsReady, JobTurned, JobFiled}
-use Rattle.tdb_steps.specs.Room.{FullAtTake}
+use Rattle.tdb_steps.specs.Room.{FullOutside}
 use Rattle.tdb_space.specs.Form.{form_in}
 use Rattle.tdb_law.specs.World.{HasFewChains}
 use Rattle.tdb_openers.specs.Cursors.{is_stood}
@@ -23,6 +24,8 @@ use Rattle.tdb_law.proofs.HandsOut.{image_answers}
 use Rattle.tdb_openers.proofs.Checks.CheckJob.{of_three, of_four, has_keys, check_ready_alone, check_ready_holds, check_turned, check_file, check_image, accepted_before}
 use Rattle.tdb_space.proofs.Results.{on_err}
 use Rattle.tdb_openers.specs.Stopped.{JobStopped}
+use Rattle.tdb_steps.specs.Memory.{StarvesOutside}
+use Rattle.tdb_openers.proofs.PlainTurns.Fullness.{plain_starves, refused_starves}
 use Rattle.tdb_openers.proofs.job.Job.turn.Goals as goal
 
 -- what doesn't depend on a view
@@ -89,7 +92,7 @@ returns-in-Plain-clause-full g c =
     let ready = subst (λ j. JobIsReady f x (resting rest) j n who c.args.owner size c.args.locks.now) c.in-Plain.is J in
     let before = subst (λ j. ImageBefore f j a others) c.in-Plain.is I in
     let small : size < 4294967296 = omega (arith, within, limit) in
-    subst (λ j. FullAtTake f a c.args.options.now.limit (record { command = command_in j; steps = n }) (law_turn turn)) (sym c.in-Plain.is)
+    subst (λ j. FullOutside f a c.args.options.now.limit (record { command = command_in j; steps = n }) (law_turn turn)) (sym c.in-Plain.is)
     (full told small c.args.options.now c.args.live rest n who others ready before)) c.turn.ensures.full
 
 -- nothing else stores
@@ -310,3 +313,35 @@ returns-in-Check-clause-stopped g c = on_err c.check_turn.result (λ told cursor
 pub returns-in-Seqnum-clause-stopped : goal.returns-in-Seqnum-clause-stopped
 returns-in-Seqnum-clause-stopped g c = on_err c.seqnum_turn.result (λ told cursor rest n who others J I.
     subst (λ j. JobStopped (g.S.Space.form c.args.s.now) (g.S.Space.image c.args.s.now) (g.S.Space.image c.seqnum_turn.new.s) cursor j n others) (sym c.in-Seqnum.is) c.seqnum_turn.ensures.looked.image)
+
+-- memory is wanting where each kind of command takes it
+pub returns-in-Plain-clause-starves : goal.returns-in-Plain-clause-starves
+returns-in-Plain-clause-starves g c =
+    let f = g.S.Space.form c.args.s.now in
+    IfOk-weaker c.turn.result _ _
+    (λ turn starves rest n who J.
+    subst (λ j. StarvesOutside f (record { command = command_in j; steps = n }) (law_turn turn)) (sym c.in-Plain.is)
+    (starves c.args.options.now c.args.live rest n who
+    (subst (λ j. JobIsReady f (own_with c.args.options.now c.args.live c.args.held.now rest) (resting rest) j n who c.args.owner (g.S.Space.size c.args.s.now) c.args.locks.now) c.in-Plain.is J))) c.turn.ensures.starves
+
+pub returns-in-Refused-clause-starves : goal.returns-in-Refused-clause-starves
+returns-in-Refused-clause-starves g c rest n who J =
+    let f = g.S.Space.form c.args.s.now in
+    let x = own_with c.args.options.now c.args.live c.args.held.now rest in
+    let ready = subst (λ j. JobIsReady f x (resting rest) j n who c.args.owner (g.S.Space.size c.args.s.now) c.args.locks.now) c.in-Refused.is J in
+    refused_starves f x (law_command c.in-Refused.command) c.in-Refused.reply (record { command = command_in c.args.self.now; steps = n }) c.refused_turn.result
+    (c.refused_turn.ensures.turn ∙ ap Turns.Done c.replace.ensures.value) ready.stands.1
+
+pub returns-in-Check-clause-starves : goal.returns-in-Check-clause-starves
+returns-in-Check-clause-starves g c =
+    let f = g.S.Space.form c.args.s.now in
+    IfOk-weaker c.check_turn.result _ _
+    (λ turn starves rest n who J.
+    let ready = subst (λ j. JobIsReady f (own_with c.args.options.now c.args.live c.args.held.now rest) (resting rest) j n who c.args.owner (g.S.Space.size c.args.s.now) c.args.locks.now) c.in-Check.is J in
+    subst (λ j. StarvesOutside f (record { command = command_in j; steps = n }) (law_turn turn)) (sym c.in-Check.is) (plain_starves f (record { command = Law.Command.OnMap Law.MapCommand.Check; steps = n }) turn (starves f n ready.stands.1))) c.check_turn.ensures.starves
+
+pub returns-in-Locking-clause-starves : goal.returns-in-Locking-clause-starves
+returns-in-Locking-clause-starves g c rest n who J b on e = absurd (cc (sym (ap command_in c.in-Locking.is) ∙ on))
+
+pub returns-in-Seqnum-clause-starves : goal.returns-in-Seqnum-clause-starves
+returns-in-Seqnum-clause-starves g c = IfOk-weaker c.seqnum_turn.result _ _ (λ turn locks rest n who J b on e. absurd (cc (sym (ap command_in c.in-Seqnum.is) ∙ on))) c.seqnum_turn.ensures.locks

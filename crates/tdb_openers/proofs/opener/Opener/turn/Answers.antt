@@ -7,12 +7,13 @@ use Rattle.tdb_openers.specs.Openers.{rest_of, own_of, command_in, walk_of, step
 use Rattle.tdb_openers.specs.Worlds.{law_of_task}
 use Rattle.tdb_commands.specs.InLaw.{law_turn}
 use Rattle.tdb_steps.proofs.Made.{of_both}
-use Rattle.tdb_steps.specs.Room.{FullAtTake}
+use Rattle.tdb_steps.specs.Room.{FullOutside}
 use Rattle.tdb_openers.specs.Jobs.{IsPlain}
 use Rattle.std.proofs.lemmas.Result.{IfOk-weaker, on_err_weaker}
 use Rattle.tdb_openers.proofs.PlainTurns.TaskReady.{task_few, task_ready, after_beside}
 use Rattle.tdb_openers.proofs.Walks.Rests.{walk_still, walk_rests}
 use Rattle.tdb_openers.specs.Stopped.{JobStopped}
+use Rattle.tdb_steps.specs.Memory.{StarvesOutside}
 use Rattle.tdb_openers.proofs.opener.Opener.turn.Goals as goal
 
 pub after-requires : goal.after-requires
@@ -65,7 +66,7 @@ returns-clause-full g c =
     (λ turn full told t who others e number I plain.
     let same : now ≡ t = ap (λ o. unwrap_or o now) (sym busy ∙ e) in
     let ready = task_ready f c.args.options.now c.args.self.now (g.S.Space.size c.args.s.now) c.args.owner c.args.locks.now c.requires.stands c.requires.holds now busy who number in
-    subst (λ u. FullAtTake f a c.args.options.now.limit (law_of_task u) (law_turn turn)) same
+    subst (λ u. FullOutside f a c.args.options.now.limit (law_of_task u) (law_turn turn)) same
     (full told (rest_of c.args.self.now.walk) now.steps who others ready (subst (λ u. ImageBefore f u.job a others) (sym same) I) (subst (λ u. IsPlain u.job) (sym same) plain))) c.turn-turn.ensures.full
 
 pub returns-clause-locks : goal.returns-clause-locks
@@ -147,3 +148,15 @@ returns-clause-stopped g c =
     let ready = task_ready f c.args.options.now c.args.self.now (g.S.Space.size c.args.s.now) c.args.owner c.args.locks.now c.requires.stands c.requires.holds now busy who number in
     subst (λ u. JobStopped f a b cursor u.job u.steps others) same
     (stopped told cursor (rest_of c.args.self.now.walk) now.steps who others ready (subst (λ u. ImageBefore f u.job a others) (sym same) I)))) c.turn-turn.ensures.stopped
+
+pub returns-clause-starves : goal.returns-clause-starves
+returns-clause-starves g c =
+    let f = g.S.Space.form c.args.s.now in
+    let now = c.in-Some.now in
+    let busy : c.args.self.now.task ≡ Some now = sym c.take.ensures.value ∙ c.in-Some.is in
+    let h = c.requires.holds now busy in
+    IfOk-weaker c.turn-turn.result _ _
+    (λ turn starves t e.
+    let same : now ≡ t = ap (λ o. unwrap_or o now) (sym busy ∙ e) in
+    let ready = task_ready f c.args.options.now c.args.self.now (g.S.Space.size c.args.s.now) c.args.owner c.args.locks.now c.requires.stands c.requires.holds now busy h.0 h.1 in
+    subst (λ u. StarvesOutside f (law_of_task u) (law_turn turn)) same (starves (rest_of c.args.self.now.walk) now.steps h.0 ready)) c.turn-turn.ensures.starves

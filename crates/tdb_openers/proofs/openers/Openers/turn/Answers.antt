@@ -19,11 +19,12 @@ use Rattle.tdb_openers.proofs.PlainTurns.Stepping.{Locked, Filed, ok_so, ok_both
 use Rattle.std.specs.Option.{option_map}
 use Rattle.tdb_openers.specs.Openers.{walk_command, walk_of}
 use Rattle.tdb_openers.specs.declared.opener.Opener.{Opener}
-use Rattle.tdb_steps.specs.Room.{FullAtTake}
-use Rattle.tdb_openers.proofs.PlainTurns.Fullness.{world_full, plain_beside}
+use Rattle.tdb_steps.specs.Room.{FullOutside}
+use Rattle.tdb_openers.proofs.PlainTurns.Fullness.{world_full, plain_beside, map_beside}
 use Rattle.tdb_openers.proofs.Walks.WalkStepping.{calm_before, spared_before}
 use Rattle.tdb_openers.proofs.Walks.WalkStepping.{Walks, walk_stopped, ok_of, spots_put, walk_busy, words_before, asked_before, walk_busy_after, walk_world_after, walk_file_after, walk_turned_after}
 use Rattle.tdb_openers.specs.Stopped.{JobStopped}
+use Rattle.tdb_steps.specs.Memory.{StarvesOutside}
 use Rattle.tdb_openers.proofs.openers.Openers.turn.Goals as goal
 
 pub turn-requires-clause-busy : goal.turn-requires-clause-busy
@@ -125,8 +126,8 @@ returns-clause-full g c =
     let K = subst (λ w. IsBusy w c.args.who x t) (sym e) B in
     let before = image_before header options xs ps a size c.args.who x d t K item W off (subst (λ w. BytesStand w a) (sym e) bytes) in
     world_full c.args.self.now a size c.args.who x t B c.requires.stands turn _ (turned told bytes x t B)
-    (λ plain. subst (λ w. FullAtTake (form_in w.header) a w.options.limit (law_of_task t) (law_turn turn)) e
-    (subst (λ f. FullAtTake f a options.limit (law_of_task t) (law_turn turn)) form
+    (λ plain. subst (λ w. FullOutside (form_in w.header) a w.options.limit (law_of_task t) (law_turn turn)) e
+    (subst (λ f. FullOutside f a options.limit (law_of_task t) (law_turn turn)) form
     (full told t K.number.place (other_hands xs K.number.place) (task_busy header options xs ps a size c.args.who x d t K item W off) K.number.counted
     (subst (λ f. ImageBefore f t.job a (other_hands xs K.number.place)) (sym form) before) plain))))
     (returns-clause-turned g c) c.turn.ensures.full
@@ -415,3 +416,31 @@ returns-in-Some-walking-clause-stopped g c =
     (walk_stopped header options xs ps a size c.args.who x d t (subst (λ w. IsBusy w c.args.who x t) (sym e) B) c.in-Some.ensures.item.1 W (walk_command c.in-Some-walking.walking)
     (sym c.walking.ensures ∙ ap (option_map walk_command) c.in-Some-walking.is) (subst (λ w. BytesStand w a) (sym e) bytes) b
     (subst (λ f. StepStops f a b d.walk.cursor) form (stopped told small)))) c.walk_turn.ensures.stopped
+
+-- Where memory is wanting.
+pub returns-clause-starves : goal.returns-clause-starves
+returns-clause-starves g c =
+    let e = c.self.view_is in
+    let form = c.requires.form ∙ ap (λ w. form_in w.header) (sym e) in
+    let header = c.self.inside.header in
+    let xs = c.self.inside.list.items in
+    let ps = c.self.inside.locks in
+    let a = g.S.Space.image c.args.s.now in
+    let size = g.S.Space.size c.args.s.now in
+    let W = subst (λ w. Stands w a size) (sym e) c.requires.stands in
+    let off = sym c.walking.ensures ∙ ap (option_map walk_command) c.in_default-walking.is in
+    IfOk-weaker c.turn.result _ _
+    (λ turn starves x t B.
+    let K = subst (λ w. IsBusy w c.args.who x t) (sym e) B in
+    subst (λ w. StarvesOutside (form_in w.header) (law_of_task t) (law_turn turn)) e
+    (subst (λ f. StarvesOutside f (law_of_task t) (law_turn turn)) form
+    (starves t (task_busy header c.self.inside.options xs ps a size c.args.who x c.in-Some.opener.now t K c.in-Some.ensures.item.1 W off)))) c.turn.ensures.starves
+
+pub returns-in-Some-walking-clause-starves : goal.returns-in-Some-walking-clause-starves
+returns-in-Some-walking-clause-starves g c =
+    let e = c.self.view_is in
+    IfOk-weaker c.walk_turn.result _ _
+    (λ turn walked x t B b on ends.
+    let N = (subst (λ w. IsBusy w c.args.who x t) (sym e) B).number in
+    let walks = sym (ap (λ (z : Opener). walk_of z.task) (numbered c.self.inside.list.items c.args.who N.place x c.in-Some.opener.now N.counted N.there c.in-Some.ensures.item.1) ∙ ap walk_of B.busy) ∙ (sym c.walking.ensures ∙ ap (option_map walk_command) c.in-Some-walking.is) in
+    absurd (map_beside t.job _ b walks on)) c.walk_turn.ensures.turned

@@ -3,7 +3,7 @@ use Rattle.std.proofs.Common.{sym, ◌∙◌, ap, subst}
 use Rattle.std.proofs.lemmas.Result.{IfOk-weaker, on_err_weaker}
 use Rattle.tdb_law.specs.Commands.Command.{OnMap}
 use Rattle.tdb_steps.specs.PlainCommands.{command_of}
-use Rattle.tdb_steps.specs.Room.{FullAtTake}
+use Rattle.tdb_steps.specs.Room.{FullOutside}
 use Rattle.tdb_steps.specs.Machines.{MachineStopped}
 use Rattle.tdb_commands.specs.InLaw.{law_turn}
 use Rattle.tdb_openers.specs.declared.job.Job.TheVariants.{Plain}
@@ -12,6 +12,7 @@ use Rattle.tdb_openers.specs.Turning.{ImageBefore, resting}
 use Rattle.tdb_openers.specs.Calm.{IsMidway}
 use Rattle.tdb_openers.specs.Jobs.{JobIsReady, JobTurned, JobFiled}
 use Rattle.tdb_openers.proofs.Checks.CheckJob.{of_three}
+use Rattle.tdb_steps.specs.Memory.{StarvesOutside}
 use Rattle.tdb_openers.proofs.told.PlainJob.turn.Goals as goal
 
 pub plain_turn-requires-clause-ready : goal.plain_turn-requires-clause-ready
@@ -62,7 +63,7 @@ returns-clause-full g c =
     (λ turn full told small options live rest n who others J I.
     let ready = subst (λ d. JobIsReady f (own_with options live held rest) (resting rest) (Plain d) n who c.args.owner size c.args.locks.now) (sym e) J in
     let before = subst (λ d. ImageBefore f (Plain d) a others) (sym e) I in
-    subst (λ d. FullAtTake f a c.args.limit (record { command = command_in (Plain d); steps = n }) (law_turn turn)) e (full told small options live rest n who others ready before)) c.plain_turn.ensures.full
+    subst (λ d. FullOutside f a c.args.limit (record { command = command_in (Plain d); steps = n }) (law_turn turn)) e (full told small options live rest n who others ready before)) c.plain_turn.ensures.full
 
 pub returns-clause-calm : goal.returns-clause-calm
 returns-clause-calm g c options live rest n who J =
@@ -90,3 +91,14 @@ returns-clause-stopped g c =
     (let ready = subst (λ d. JobIsReady f (own_with options live held rest) (resting rest) (Plain d) n who c.args.owner size c.args.locks.now) (sym e) J in
     let before = subst (λ d. ImageBefore f (Plain d) a others) (sym e) I in
     subst (λ d. MachineStopped f a b d n others) e (stopped told small options live rest n who others ready before))) c.plain_turn.ensures.stopped
+
+pub returns-clause-starves : goal.returns-clause-starves
+returns-clause-starves g c =
+    let f = g.S.Space.form c.args.s.now in
+    let held = c.args.held.now in
+    let size = g.S.Space.size c.args.s.now in
+    let e = c.self.view_is in
+    IfOk-weaker c.plain_turn.result _ _
+    (λ turn starves options live rest n who J.
+    subst (λ d. StarvesOutside f (record { command = command_in (Plain d); steps = n }) (law_turn turn)) e
+    (starves options live rest n who (subst (λ d. JobIsReady f (own_with options live held rest) (resting rest) (Plain d) n who c.args.owner size c.args.locks.now) (sym e) J))) c.plain_turn.ensures.starves
