@@ -23,7 +23,7 @@ use Rattle.tdb_world.specs.States.{IsStateOf}
 use Rattle.tdb_world.specs.Steps.{GiftLeads, HasCommand, HasNoCommand, HasRoom, JoinLeads, StartWaits, TurnLeads, UndoLeads}
 use Rattle.tdb_world.specs.Stops.{IsChanging, IsSafe}
 use Rattle.tdb_world.specs.Prepared.{GoesAsPrepared}
-use Rattle.tdb_world.specs.Room.{FullOfTurn}
+use Rattle.tdb_world.specs.Room.{FullOfTurn, StarvesInFile}
 use Rattle.tdb_world.specs.Syncs.{SyncsByStage}
 use Rattle.tdb_world.specs.OverFile.{OnlyInMemory, OverFile}
 use Rattle.tdb_world.specs.OverFiles.Openers.{CannotJoin, HasJoined, IsAbsent, IsLive, StandsSo, WasGiven}
@@ -76,6 +76,7 @@ was_given old new who command (Err e) room busy leads stale memory = tt
 pub took_turn : {E : Type 0} (tells : Bool) (old new : OverFile) (who : ℕ) (r : Result Turn E)
     → IfOk r (λ turn. IsTrue tells → TurnLeads old.world new.world old.history new.history who (law_turn turn))
     → IfOk r (λ turn. IsTrue tells → FullOfTurn old.world old.history who (law_turn turn))
+    → IfOk r (λ turn. StarvesInFile old.world who (law_turn turn))
     → IfOk r (λ turn. StartWaits old.world who (law_turn turn))
     → IfOk r (λ turn. IsTrue tells → GoesAsPrepared old.world old.history (law_opener who) (law_turn turn))
     → OnOk r (IsTrue tells → (state : State) → IsStateOf old.world old.history state → IsSafe (form_at old.world) old.history → (IsChanging (form_at old.world) state (law_opener who) → ⊥)
@@ -86,9 +87,10 @@ pub took_turn : {E : Type 0} (tells : Bool) (old new : OverFile) (who : ℕ) (r 
     → OnOk r (new.world.stale ≡ false) → OnOk r (old.size ≤ new.size)
     → OnOk r (new.world.openers.header ≡ old.world.openers.header) → OnOk r (new.world.openers.options ≡ old.world.openers.options)
     → IfOk r (λ turn. TookTurn tells old new who turn)
-took_turn tells old new who (Ok turn) leads full waits prepared safe syncs busy idle fresh longer header options = record {
+took_turn tells old new who (Ok turn) leads full starves waits prepared safe syncs busy idle fresh longer header options = record {
   leads = leads;
   full = full;
+  starves = starves;
   waits = waits;
   prepared = prepared;
   safe = λ told state S. safe told state S.has S.safe S.calm;
@@ -99,7 +101,7 @@ took_turn tells old new who (Ok turn) leads full waits prepared safe syncs busy 
   longer = longer;
   form = record { header = header; options = options };
 }
-took_turn tells old new who (Err e) leads full waits prepared safe syncs busy idle fresh longer header options = tt
+took_turn tells old new who (Err e) leads full starves waits prepared safe syncs busy idle fresh longer header options = tt
 
 -- and so does its count of faults
 pub counts_faults : {V E : Type 0} (tells : Bool) (old new : OverFile) (r : Result V E)

@@ -19,9 +19,10 @@ ghost use Rattle.tdb_openers.specs.declared.job.Task.{Task};
 ghost use Rattle.tdb_openers.specs.declared.opener.Opener.{Opener};
 ghost use Rattle.tdb_world.specs.Shut.{IsOpen, IsShutBy};
 ghost use Rattle.tdb_world.specs.Looks.{MayWrite};
-ghost use Rattle.tdb_world.specs.Room.{FullOfTurn};
+ghost use Rattle.tdb_world.specs.Room.{FullOfTurn, StarvesInFile};
 ghost use Rattle.tdb_world.specs.Stopped.{StopsRightly};
-ghost use Rattle.tdb_steps.specs.Room.{FullAtTake};
+ghost use Rattle.tdb_steps.specs.Memory.{StarvesOutside};
+ghost use Rattle.tdb_steps.specs.Room.{FullOutside};
 ghost use Rattle.tdb_world.specs.Whole.{form_at, is_starting, WorldFits};
 ghost use Rattle.tdb_world.specs.States.{IsStateOf};
 ghost use Rattle.tdb_world.specs.Steps.{HasCommand, IsAmong, TurnLeads};
@@ -71,7 +72,8 @@ impl AllOpeners {
         ensures turned { IfOk result (λ turn. IsTrue D.tells → BytesStand self.old.openers (seen (D.history d.old)) → (x : Opener) (t : Task) → IsBusy self.old.openers who x t
             → Turned (form_in self.old.openers.header) (state_in self.old.openers (seen (D.history d.old))) (law_opener who) (law_of_task t) (law_turn turn) (state_in self.new.openers (seen (D.history d.new)))) }
         ensures full { IfOk result (λ turn. IsTrue D.tells → BytesStand self.old.openers (seen (D.history d.old)) → (x : Opener) (t : Task) → IsBusy self.old.openers who x t
-            → FullAtTake (form_in self.old.openers.header) (seen (D.history d.old)) self.old.openers.options.limit (law_of_task t) (law_turn turn)) }
+            → FullOutside (form_in self.old.openers.header) (seen (D.history d.old)) self.old.openers.options.limit (law_of_task t) (law_turn turn)) }
+        ensures starves { IfOk result (λ turn. (x : Opener) (t : Task) → IsBusy self.old.openers who x t → StarvesOutside (form_in self.old.openers.header) (law_of_task t) (law_turn turn)) }
         ensures stopped { OnErr result (IsTrue D.tells → BytesStand self.old.openers (seen (D.history d.old)) → (x : Opener) (t : Task) → IsBusy self.old.openers who x t
             → JobStopped (form_in self.old.openers.header) (seen (D.history d.old)) (seen (D.history d.new)) x.walk.cursor t.job t.steps (other_hands self.old.openers.openers (law_opener who))) }
         ensures calm { WritesNoRecord self.old.openers.table (law_opener who) → (D.history d.new ≡ D.history d.old) × (D.size d.new ≡ D.size d.old) }
@@ -202,6 +204,7 @@ impl AllOpeners {
         ensures fresh { OnOk result (self.new.stale ≡ false) }
         ensures turned { IfOk result (λ turn. IsTrue D.tells → TurnLeads self.old self.new (D.history d.old) (D.history d.new) who (law_turn turn)) }
         ensures full { IfOk result (λ turn. IsTrue D.tells → FullOfTurn self.old (D.history d.old) who (law_turn turn)) }
+        ensures starves { IfOk result (λ turn. StarvesInFile self.old who (law_turn turn)) }
         ensures stopped { OnErr result (IsTrue D.tells → StopsRightly self.old (D.history d.old) (D.history d.new) who) }
         ensures stops { IsTrue D.tells → (state : State) → let f = form_at self.old in IsStateOf self.old (D.history d.old) state → IsSafe f (D.history d.old) → (IsChanging f state (law_opener who) → ⊥)
             → LeavesOnly (D.history d.old) (D.history d.new) (TurnMayLeave f state (law_opener who)) }

@@ -8,7 +8,7 @@ ghost use Rattle.tdb_commands.specs.InLaw.{law_opener, law_turn};
 ghost use Rattle.tdb_world.specs.Whole.{form_at, WorldFits};
 ghost use Rattle.tdb_world.specs.States.{IsStateOf};
 ghost use Rattle.tdb_world.specs.Steps.{HasCommand, StartWaits, TurnLeads};
-ghost use Rattle.tdb_world.specs.Room.{FullOfTurn};
+ghost use Rattle.tdb_world.specs.Room.{FullOfTurn, StarvesInFile};
 ghost use Rattle.tdb_world.specs.Stopped.{StopsRightly};
 ghost use Rattle.tdb_world.specs.Stops.{IsChanging, IsSafe, TurnMayLeave};
 ghost use Rattle.tdb_world.specs.Prepared.{GoesAsPrepared};
@@ -24,8 +24,10 @@ impl AllOpeners {
     /// Takes one turn of the opener's command. After `Io` no other turn may be taken in the world: the disk failed, or
     /// a check found a fault in the file, which no turn leaves. A Commit of a prepared transaction is never blocked,
     /// and is done after at most four turns of its opener. `Full` comes exactly where the image that the opener sees
-    /// has no room, up to the limit, for what the command stores. The first turn of a Start is blocked by the one aside
-    /// where that holds the lock byte of transactions, and never wants memory there. After `Io` outside a transaction
+    /// has no room, up to the limit, for what the command stores; inside a transaction it may be that memory is wanting
+    /// there. Outside one a command on the map wants memory only where its turn takes a lock, the value that a fetch
+    /// tells or an append joins, or the count of a check. The first turn of a Start is blocked by the one aside where
+    /// that holds the lock byte of transactions, and never wants memory there. After `Io` outside a transaction
     /// at most the chain of the command's key, the free list, their heads, the command's record and the sequence number
     /// have changed. Outside a transaction a turn writes nothing unless it is in the middle of a change: not where its
     /// command changes no map, and not in the first turn of one that does.
@@ -43,6 +45,7 @@ impl AllOpeners {
         ensures fresh { OnOk result (self.new.stale ≡ false) }
         ensures turned { IfOk result (λ turn. IsTrue D.tells → TurnLeads self.old self.new (D.history d.old) (D.history d.new) who (law_turn turn)) }
         ensures full { IfOk result (λ turn. IsTrue D.tells → FullOfTurn self.old (D.history d.old) who (law_turn turn)) }
+        ensures starves { IfOk result (λ turn. StarvesInFile self.old who (law_turn turn)) }
         ensures waits { IfOk result (λ turn. StartWaits self.old who (law_turn turn)) }
         ensures stopped { OnErr result (IsTrue D.tells → StopsRightly self.old (D.history d.old) (D.history d.new) who) }
         ensures prepared { IfOk result (λ turn. IsTrue D.tells → GoesAsPrepared self.old (D.history d.old) (law_opener who) (law_turn turn)) }

@@ -19,7 +19,7 @@ use Rattle.tdb_world.specs.Whole.{form_at}
 use Rattle.tdb_world.specs.Steps.{HasCommand, HasNoCommand, StartWaits, TurnLeads, UndoLeads}
 use Rattle.tdb_world.specs.Stops.{IsChanging, IsSafe, OpensToState, TurnMayLeave}
 use Rattle.tdb_world.specs.Prepared.{GoesAsPrepared}
-use Rattle.tdb_world.specs.Room.{FullOfTurn}
+use Rattle.tdb_world.specs.Room.{FullOfTurn, StarvesInFile}
 use Rattle.tdb_world.specs.Looks.{StaysUnwritten}
 use Rattle.tdb_world.specs.Syncs.{OnlyLooks, SyncsByStage}
 use Rattle.tdb_world.specs.OverFile.{OverFile, HasState, KeepsForm}
@@ -42,6 +42,7 @@ OutlivesCommand state o = (task : Task) → state.task o ≡ Some task → task.
 pub record TookTurn (tells : Bool) (old new : OverFile) (who : ℕ) (turn : Turn) : Type 0 where
   pub leads : IsTrue tells → TurnLeads old.world new.world old.history new.history who (law_turn turn)
   pub full : IsTrue tells → FullOfTurn old.world old.history who (law_turn turn)
+  pub starves : StarvesInFile old.world who (law_turn turn)
   pub waits : StartWaits old.world who (law_turn turn)
   pub prepared : IsTrue tells → GoesAsPrepared old.world old.history (law_opener who) (law_turn turn)
   pub safe : IsTrue tells → (state : State) → IsSafeFor old who state → IsSafe (form_at old.world) new.history

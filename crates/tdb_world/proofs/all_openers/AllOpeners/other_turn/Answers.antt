@@ -25,6 +25,7 @@ use Rattle.std.proofs.lemmas.Result.{IfOk-weaker, on_err_weaker}
 use Rattle.tdb_world.proofs.Stopped.{job_front}
 use Rattle.tdb_world.proofs.Stopping.{still_leaves}
 use Rattle.tdb_world.proofs.all_openers.AllOpeners.other_turn.Given
+use Rattle.tdb_world.specs.Room.{StarvesInFile}
 use Rattle.tdb_world.proofs.all_openers.AllOpeners.other_turn.Goals as goal
 use Rattle.tdb_world.proofs.all_openers.AllOpeners.other_turn.Goals.{After-turn_in_file}
 
@@ -220,3 +221,12 @@ returns-in-None-clause-stopped g c =
     stopped_in_file B.0 B.1 (record { busy = B.2; among = c.requires.among; begun = c.requires.begun; open_to = c.in-None.ensures.none })
     (record { front = job_front (form_at old) (seen h) (seen (g.D.Disk.history c.turn_in_file.new.d)) _ F.accepted B.0.walk.cursor B.1.job B.1.steps _ left; left = left })))
     c.turn_in_file.ensures.stopped
+
+-- where memory is wanting
+pub returns-in-None-clause-starves : goal.returns-in-None-clause-starves
+returns-in-None-clause-starves g c = IfOk-weaker c.turn_in_file.result _ _ (λ turn starves x t H. starves x t H.busy) c.turn_in_file.ensures.starves
+
+pub returns-in-Some-clause-starves : goal.returns-in-Some-clause-starves
+returns-in-Some-clause-starves g c =
+    let Z = c.in-Some.ensures.some in
+    on_ok c.turn_beside.result _ (λ turn. StarvesInFile c.args.self.now c.args.who (law_turn turn)) (λ turn turned x t H. absurd (H.open_to Z.holder Z.aside Z.writes)) c.turn_beside.ensures.turned

@@ -113,3 +113,13 @@ returns-then-is_aside-clause-waits g c =
 pub returns-clause-waits : goal.returns-clause-waits
 returns-clause-waits g c =
     if_any c.other_turn.result _ (λ turn begun among other there some. absurd (false≢true (sym (sym c.is_starting.ensures ∙ c.if-is_starting.false) ∙ begun)))
+
+-- where memory is wanting: one aside isn't among the others, and who has a Start has no other command
+pub returns-then-is_aside-clause-starves : goal.returns-then-is_aside-clause-starves
+returns-then-is_aside-clause-starves g c =
+    let h = c.is_aside.ensures.yes c.if-is_aside.true in
+    if_any c.aside_turn.result _ (λ turn x t H. absurd (not_among c.args.self.now c.args.who h.0 h.1 h.2 H.among))
+
+pub returns-then-is_starting-clause-starves : goal.returns-then-is_starting-clause-starves
+returns-then-is_starting-clause-starves g c =
+    if_any c.start_turn.result _ (λ turn x t H. absurd (false≢true (sym H.begun ∙ (sym c.is_starting.ensures ∙ c.if-is_starting.true))))

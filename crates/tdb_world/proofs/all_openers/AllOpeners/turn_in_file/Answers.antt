@@ -6,7 +6,8 @@ use Rattle.tdb_space.specs.DiskState.{DiskState}
 use Rattle.tdb_space.specs.Form.{form_in}
 use Rattle.tdb_locks.specs.declared.turn.Turn.{Turn}
 use Rattle.tdb_law.specs.Turned.{Turned}
-use Rattle.tdb_steps.specs.Room.{FullAtTake}
+use Rattle.tdb_steps.specs.Memory.{StarvesOutside}
+use Rattle.tdb_steps.specs.Room.{FullOutside}
 use Rattle.tdb_commands.specs.InLaw.{law_opener, law_turn}
 use Rattle.tdb_openers.specs.Laws.{other_hands}
 use Rattle.tdb_openers.specs.Stopped.{JobStopped}
@@ -32,7 +33,7 @@ returns-clause-turned g c =
     (subst (λ y. Turns c.turn.result (IsTrue g.D.Disk.tells) c.self.inside.openers (seen (g.D.Disk.history c.new-view.result.disk.now)) c.args.who c.turn.new.self y) b c.turn.ensures.turned))
 
 abbrev Fulls : {E : Type 0} → Result Turn E → Type 0 → World → List ℕ → ℕ → Type 0
-Fulls r tells z a who = IfOk r (λ turn. tells → BytesStand z a → (x : Opener) (t : Task) → IsBusy z who x t → FullAtTake (form_in z.header) a z.options.limit (law_of_task t) (law_turn turn))
+Fulls r tells z a who = IfOk r (λ turn. tells → BytesStand z a → (x : Opener) (t : Task) → IsBusy z who x t → FullOutside (form_in z.header) a z.options.limit (law_of_task t) (law_turn turn))
 
 pub returns-clause-full : goal.returns-clause-full
 returns-clause-full g c =
@@ -40,6 +41,13 @@ returns-clause-full g c =
     let a = ap (λ d. seen (g.D.Disk.history d)) c.new-view.ensures.disk in
     subst (λ z. Fulls c.turn.result (IsTrue g.D.Disk.tells) z (seen (g.D.Disk.history c.args.d.now)) c.args.who) is
     (subst (λ y. Fulls c.turn.result (IsTrue g.D.Disk.tells) c.self.inside.openers y c.args.who) a c.turn.ensures.full)
+
+-- where memory is wanting
+abbrev Starving : {E : Type 0} → Result Turn E → World → ℕ → Type 0
+Starving r z who = IfOk r (λ turn. (x : Opener) (t : Task) → IsBusy z who x t → StarvesOutside (form_in z.header) (law_of_task t) (law_turn turn))
+
+pub returns-clause-starves : goal.returns-clause-starves
+returns-clause-starves g c = subst (λ z. Starving c.turn.result z c.args.who) (ap (λ (z : Whole). z.openers) c.self.view_is) c.turn.ensures.starves
 
 abbrev Stopped : {E : Type 0} → Result Turn E → Type 0 → World → List ℕ → List ℕ → ℕ → Type 0
 Stopped r tells z a b who = OnErr r (tells → BytesStand z a → (x : Opener) (t : Task) → IsBusy z who x t → JobStopped (form_in z.header) a b x.walk.cursor t.job t.steps (other_hands z.openers (law_opener who)))

@@ -15,7 +15,7 @@ returns-clause-turned g c =
     let spent = ap (λ (w : OverFile). w.spent) c.self.view_is ∙ c.requires.unspent in
     let busy = subst (λ (w : OverFile). HasCommand w.world c.args.who) (sym c.self.view_is) c.requires.busy in
     let idle = idle_so g.D.Disk.tells _ _ _ _ _ _ _ _ c.args.who c.requires.named (c.self.invariant spent) busy c.turn-turned.result e.fits e.turned in
-    rw (← c.self.view_is) (took_turn _ _ _ _ _ e.turned e.full e.waits e.prepared e.safe e.syncs e.busy idle e.fresh e.longer e.header e.options)
+    rw (← c.self.view_is) (took_turn _ _ _ _ _ e.turned e.full e.starves e.waits e.prepared e.safe e.syncs e.busy idle e.fresh e.longer e.header e.options)
 
 pub returns-clause-stopped : goal.returns-clause-stopped
 returns-clause-stopped g c = rw (← c.self.view_is) c.turn-turned.ensures.stopped
